@@ -41,7 +41,7 @@ fn chain_text<R: Threads + Wait + Sync + Env + AllocGlobal>(
     let mut text = String::new(alloc);
     if let Err(fault) = check_graph(alloc, &Chain { length }, config.nodes) {
         writeln!(text, "not in order: {fault:?}")?;
-        return Err(Ending::Told(Status::Refused, text));
+        return Err(Ending::ErrorLine(Status::Refused, text));
     }
     match run_chain(rt, alloc, length, config) {
         Ok(results) => {
@@ -59,7 +59,7 @@ fn chain_text<R: Threads + Wait + Sync + Env + AllocGlobal>(
                 Some(task) => writeln!(text, ": task {}", task.0)?,
                 None => writeln!(text)?,
             }
-            Err(Ending::Told(Status::Failed, text))
+            Err(Ending::ErrorLine(Status::Failed, text))
         }
     }
 }

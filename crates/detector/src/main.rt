@@ -40,7 +40,7 @@ fn totals_text<R: Threads + Wait + Clock + Sync + Env + AllocGlobal>(
             }
             Err(fault) => {
                 let line = format!(in rt.alloc(); "processes {processes}: {fault:?}\n")?;
-                return Err(Ending::Told(Status::Failed, line));
+                return Err(Ending::ErrorLine(Status::Failed, line));
             }
         }
     }

@@ -5,7 +5,8 @@ pub use Rattle.gerfmuod.proofs.answer.{Status.TheLaws.the_row_laws as status_law
 pub use Rattle.gerfmuod.proofs.answer.{LeftTask.TheLaws.the_row_laws as left_laws, Written.TheLaws.the_row_laws as written_laws}
 pub use Rattle.gerfmuod.{proofs.graph.answer.GraphResult.TheLaws.the_row_laws as graph_result_laws, specs.Calls.{IsByCall, IsClosed}}
 pub use Rattle.gerfmuod.specs.Calls.{IsCountersCall, IsLeftCall, IsRestartCall, IsSettleCall, IsStepCall, IsStepsCall, IsTraceCall}
-pub use Rattle.gerfmuod.specs.{Calls.{IsReserveCall, IsStatusCall, raw_step, CoreState, opened, opened_as, opening}, Part.{GraphState, opened_graph}}
+pub use Rattle.gerfmuod.specs.Calls.{IsReserveCall, IsStatusCall, raw_step, CoreState, opened, opened_as, opening}
+pub use Rattle.gerfmuod.specs.Part.{GraphState, opened_graph}
 pub use Rattle.gerfmuod.specs.Part.{IsDescribeCall, IsGraphCall, IsSpawnCall, IsTaskCall, IsPartCall, IsSharedTaskCall, IsTaskOfCall}
 pub use Rattle.gerfmuod.specs.Part.{PartView, opened_part}
 pub use Rattle.gerfmuod.specs.contracts.{answer.StepResult.the_row as result_row, graph.slot.GraphSlot.the_row as graph_row}

@@ -1,8 +1,9 @@
 -- The steps that a core takes: its room, the safety of what it returns, and several steps in one call.
 pub use Rattle.gerfmuod.specs.Calls.{Ok, Err, IsFalse, IsTrue, number_of, Refusal, HistoryFull, Step, Judge, present, is_ended, Reply}
-pub use Rattle.gerfmuod.specs.Calls.{Accepted, Answers, world_of, Settles, is_quiet, InEach, IsNeverEarly, IsKept, is_full, ◌&&◌}
+pub use Rattle.gerfmuod.specs.Calls.{Accepted, AcceptsOrRefuses, world_of, Settles, is_quiet, InEach, IsNeverEarly, IsKept, is_full, ◌&&◌}
 pub use Rattle.gerfmuod.specs.Calls.{if◌then◌else◌, Give, visited_at, Plain, Over, IsOverFrom, settled, unsettled, IsOver, TellsNoEarlyEnd}
-pub use Rattle.gerfmuod.specs.Calls.{leaves_nothing, plain, told, reply_told, AnswersInRoom, AnswersTo, StepResult, AreTaken, IsBatch}
+pub use Rattle.gerfmuod.specs.Calls.{leaves_nothing, plain, step_result, reply_result}
+pub use Rattle.gerfmuod.specs.Calls.{AcceptsInRoom, AcceptsIfAny, StepResult, AreTaken, IsBatch}
 pub use Rattle.gerfmuod.specs.Calls.{IsStep, IsStepsCall, step_asked}
 pub use Rattle.gerfmuod.specs.{Calls.{CoreState, Open, RawStep, raw_step}, declared.pool.BoundedCore.TheInside.Inside}
 pub use Rattle.std.proofs.Common.{ℕ, ◌≡◌, ◌≢◌, ◌+◌, ◌*◌, ◌≤◌, ◌++◌, Bool, true, false, List, ◌∷◌, [], length, Result, Some, refl, sym, ap}
@@ -76,7 +77,7 @@ over_at_judge n w past never e =
     (never w [] past refl e)
 
 -- ---- a step whose result is `Over` was a judgement
-reply_over : (reply : Reply) → (reply_told reply).event ≡ 3 → reply ≡ Over (reply_told reply).number
+reply_over : (reply : Reply) → (reply_result reply).event ≡ 3 → reply ≡ Over (reply_result reply).number
 reply_over (Over w) e = refl
 reply_over _ e = cc
 
@@ -98,19 +99,19 @@ over_after old new s w e n never =
     (λ each. over_at_judge old.nodes w (present old.steps) (each [] (Judge ∷ old.steps) refl) j.1) never
 
 -- ---- a step that was taken
-full_is_refused : (old : Accepted) (s : Step) (reply : Reply) (new : Accepted) → AnswersInRoom old s (Ok reply) new → IsFalse (is_full old)
+full_is_refused : (old : Accepted) (s : Step) (reply : Reply) (new : Accepted) → AcceptsInRoom old s (Ok reply) new → IsFalse (is_full old)
 full_is_refused old s reply new a = elim (cases_Bool (is_full old)) [ inl e ↦ let none = (a.full e).0 in cc | inr e ↦ e ]
 
-answered_in_room : (old : Accepted) (s : Step) (reply : Reply) (new : Accepted) → AnswersInRoom old s (Ok reply) new
-    → Answers old s (Ok reply) new
+answered_in_room : (old : Accepted) (s : Step) (reply : Reply) (new : Accepted) → AcceptsInRoom old s (Ok reply) new
+    → AcceptsOrRefuses old s (Ok reply) new
 answered_in_room old s reply new a = a.taken (full_is_refused old s reply new a)
 
-pub reply_safe : (old new : Accepted) (o : Option Step) (reply : Reply) → AnswersTo old o (Ok reply) new
-    → InEach (IsNeverEarly new.nodes) new.steps → TellsNoEarlyEnd ((reply_told reply).event ≡ 3) (reply_told reply).number new
+pub reply_safe : (old new : Accepted) (o : Option Step) (reply : Reply) → AcceptsIfAny old o (Ok reply) new
+    → InEach (IsNeverEarly new.nodes) new.steps → TellsNoEarlyEnd ((reply_result reply).event ≡ 3) (reply_result reply).number new
 reply_safe old new (Some s) reply a never =
     let there = answered_in_room old s reply new a in
     record {
-      ended = λ e. over_after old new s (reply_told reply).number (sym there.1 ∙ reply_over reply e) there.2 never;
+      ended = λ e. over_after old new s (reply_result reply).number (sym there.1 ∙ reply_over reply e) there.2 never;
       never_early = never;
     }
 reply_safe old new None reply a never = let none = a.0 in absurd cc
@@ -135,20 +136,20 @@ settled_over old new (Err r) s never = record { ended = λ e. absurd (unsettled_
 
 -- ---- steps that are taken one after the other, and the buffer with their results
 -- ---- a refused step changes nothing
-reply_taken : (reply : Reply) → (reply_told reply).refused ≡ 0
+reply_taken : (reply : Reply) → (reply_result reply).refused ≡ 0
 reply_taken Plain = refl
 reply_taken _ = refl
 
-told_taken : (left : Bool) (reply : Reply) → (if left then plain 0 5 0 else reply_told reply).refused ≡ 0
+told_taken : (left : Bool) (reply : Reply) → (if left then plain 0 5 0 else reply_result reply).refused ≡ 0
 told_taken true reply = refl
 told_taken false reply = reply_taken reply
 
-err_changes_nothing : (old : Accepted) (o : Option Step) (r : Refusal) (new : Accepted) → AnswersTo old o (Err r) new → new ≡ old
+err_changes_nothing : (old : Accepted) (o : Option Step) (r : Refusal) (new : Accepted) → AcceptsIfAny old o (Err r) new → new ≡ old
 err_changes_nothing old None r new a = a.1
 err_changes_nothing old (Some s) r new a = elim (cases_Bool (is_full old)) [ inl e ↦ (a.full e).1 | inr e ↦ (a.taken e).1 ]
 
-result_changes_nothing : (old : Accepted) (o : Option Step) (r : Result Reply Refusal) (new : Accepted) → AnswersTo old o r new
-    → (told o r new).refused ≢ 0 → new ≡ old
+result_changes_nothing : (old : Accepted) (o : Option Step) (r : Result Reply Refusal) (new : Accepted) → AcceptsIfAny old o r new
+    → (step_result o r new).refused ≢ 0 → new ≡ old
 result_changes_nothing old o (Ok reply) new a differs = absurd (differs (told_taken (leaves_nothing o new) reply))
 result_changes_nothing old o (Err r) new a differs = err_changes_nothing old o r new a
 

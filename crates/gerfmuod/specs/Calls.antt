@@ -10,7 +10,8 @@ pub use Rattle.tp_base.specs.declared.{Refusal.TheVariants.WrongLife, Step.{Step
 pub use Rattle.tp_base.specs.declared.Step.TheVariants.{ActionClose, Ready, Send, Recv, MessageEnd, Start, Down, Give, Up, Judge, Reopen}
 pub use Rattle.tp_base.specs.declared.ids.{ActionId.ActionId, Generation.Generation, MessageId.MessageId, NodeId.NodeId, TaskId.TaskId}
 pub use Rattle.tp_base.specs.declared.limits.TheConstants.{MAX_NODES, MAX_STEPS}
-pub use Rattle.tp_core.specs.{Accepted.{Accepted, Answers, list_length, world_of, numbers_at, no_numbers}, Generations.{AreRuns, InEach}}
+pub use Rattle.tp_core.specs.Accepted.{Accepted, AcceptsOrRefuses, list_length, world_of, numbers_at, no_numbers}
+pub use Rattle.tp_core.specs.Generations.{AreRuns, InEach}
 pub use Rattle.tp_core.specs.{Left.{IsNextLeft, home_and_life}, Makers.is_maker, NeverEarly.{IsNeverEarly, IsOverFrom}, Settled.Settles}
 pub use Rattle.tp_core.specs.{World.{World, is_quiet, IsQuiet}, declared.Life.Life}
 pub use Rattle.tp_core.specs.declared.{Maker.{Maker, TheVariants.{Task, Action, Message, Opening, Thread}}, Reply.Reply}
@@ -211,17 +212,17 @@ is_full a = room_of a == 0
 abbrev pub plain : ℕ → ℕ → ℕ → StepResult
 plain refused event number = record { refused = refused; event = event; number = number; sent = 0; received = 0 }
 
-abbrev pub reply_told : Reply → StepResult
-reply_told Plain = plain 0 0 0
-reply_told (WaveSums s) = record { refused = 0; event = 1; number = s.wave; sent = s.sent; received = s.received }
-reply_told Not = plain 0 2 0
-reply_told (Over w) = plain 0 3 w
-reply_told (Opened g) = plain 0 4 g.0
+abbrev pub reply_result : Reply → StepResult
+reply_result Plain = plain 0 0 0
+reply_result (WaveSums s) = record { refused = 0; event = 1; number = s.wave; sent = s.sent; received = s.received }
+reply_result Not = plain 0 2 0
+reply_result (Over w) = plain 0 3 w
+reply_result (Opened g) = plain 0 4 g.0
 
 -- the result of a refusal; if the history is full, with the number of steps
-abbrev pub refusal_told : Refusal → StepResult
-refusal_told (HistoryFull n) = plain 16 0 n
-refusal_told r = plain (number_of r) 0 0
+abbrev pub refusal_result : Refusal → StepResult
+refusal_result (HistoryFull n) = plain 16 0 n
+refusal_result r = plain (number_of r) 0 0
 
 -- The step ends something: a task, an action, the opening of a node or a message.
 abbrev pub is_ending : Step → Bool
@@ -247,24 +248,24 @@ has_plain_reply (Some Reopen) = false
 has_plain_reply _ = true
 
 -- the result of a step after which the core has accepted the new steps
-abbrev pub told : Option Step → Result Reply Refusal → Accepted → StepResult
-told o (Ok reply) new = if leaves_nothing o new then plain 0 5 0 else reply_told reply
-told o (Err r) new = refusal_told r
+abbrev pub step_result : Option Step → Result Reply Refusal → Accepted → StepResult
+step_result o (Ok reply) new = if leaves_nothing o new then plain 0 5 0 else reply_result reply
+step_result o (Err r) new = refusal_result r
 
 -- If there is no room for the step, it is refused with the number of steps that were taken, and nothing changes. Else the
 -- core's result is returned.
-pub record AnswersInRoom (old : Accepted) (s : Step) (r : Result Reply Refusal) (new : Accepted) : Type 0 where
+pub record AcceptsInRoom (old : Accepted) (s : Step) (r : Result Reply Refusal) (new : Accepted) : Type 0 where
   pub full : IsTrue (is_full old) → (r ≡ Err (HistoryFull (list_length old))) × (new ≡ old)
-  pub taken : IsFalse (is_full old) → Answers old s r new
+  pub taken : IsFalse (is_full old) → AcceptsOrRefuses old s r new
 
 -- If there is no step, the call is refused and nothing changes.
-abbrev pub AnswersTo : Accepted → Option Step → Result Reply Refusal → Accepted → Type 0
-AnswersTo old None r new = (r ≡ Err BadSpec) × (new ≡ old)
-AnswersTo old (Some s) r new = AnswersInRoom old s r new
+abbrev pub AcceptsIfAny : Accepted → Option Step → Result Reply Refusal → Accepted → Type 0
+AcceptsIfAny old None r new = (r ≡ Err BadSpec) × (new ≡ old)
+AcceptsIfAny old (Some s) r new = AcceptsInRoom old s r new
 
 -- The result of a step, or of no step, on a core that accepted the old steps, and the core after it.
-abbrev pub IsTold : Accepted → Option Step → StepResult → Accepted → Type 0
-IsTold old o answer new = (r : Result Reply Refusal) × AnswersTo old o r new × (answer ≡ told o r new)
+abbrev pub IsStepResult : Accepted → Option Step → StepResult → Accepted → Type 0
+IsStepResult old o answer new = (r : Result Reply Refusal) × AcceptsIfAny old o r new × (answer ≡ step_result o r new)
 
 -- ---- a step with its maker, as C passes it
 -- the maker that C passes, if there is one
@@ -284,15 +285,15 @@ made_step e = if nat_le e.kind 4 || (e.kind == 7) then step_asked e else None
 -- A step that its maker may not make is refused as 29, `NoMaker`, before all checks of the step and of
 -- the room, and nothing changes.
 -- Any other step does and returns what it does and returns without a maker.
-pub record IsMadeBy (old : Accepted) (m : Maker) (s : Step) (answer : StepResult) (new : Accepted) : Type 0 where
+pub record IsResultForMaker (old : Accepted) (m : Maker) (s : Step) (answer : StepResult) (new : Accepted) : Type 0 where
   pub no_maker : IsFalse (is_maker m s (world_of old)) → (answer ≡ plain 29 0 0) × (new ≡ old)
-  pub told : IsTrue (is_maker m s (world_of old)) → IsTold old (Some s) answer new
+  pub step_result : IsTrue (is_maker m s (world_of old)) → IsStepResult old (Some s) answer new
 
 -- If there is no such step or no such maker, the call is refused and nothing changes.
-abbrev pub IsMade : Accepted → Option Maker → Option Step → StepResult → Accepted → Type 0
-IsMade old (Some m) (Some s) answer new = IsMadeBy old m s answer new
-IsMade old (Some m) None answer new = (answer ≡ refusal_told BadSpec) × (new ≡ old)
-IsMade old None s answer new = (answer ≡ refusal_told BadSpec) × (new ≡ old)
+abbrev pub IsMakerResult : Accepted → Option Maker → Option Step → StepResult → Accepted → Type 0
+IsMakerResult old (Some m) (Some s) answer new = IsResultForMaker old m s answer new
+IsMakerResult old (Some m) None answer new = (answer ≡ refusal_result BadSpec) × (new ≡ old)
+IsMakerResult old None s answer new = (answer ≡ refusal_result BadSpec) × (new ≡ old)
 
 -- ---- the results of the calls that read the counters of a core or settle it
 abbrev pub counters : ℕ → NodeNumbers → Counters
@@ -345,7 +346,7 @@ IsSettled old answer new = (r : Result (ℕ × ℕ) Refusal) × Settles old r ne
 -- ---- several steps in one call
 -- The result of a step on an open core, and the core after it.
 abbrev pub IsStep : RawStep → Accepted → StepResult → Accepted → Type 0
-IsStep e old u new = IsTold old (step_asked e) u new × TellsNoEarlyEnd (u.event ≡ 3) u.number new
+IsStep e old u new = IsStepResult old (step_asked e) u new × TellsNoEarlyEnd (u.event ≡ 3) u.number new
 
 -- The steps were taken in order, each with its result.
 abbrev pub AreTaken : Accepted → List RawStep → List StepResult → Accepted → Type 0
@@ -373,7 +374,7 @@ IsStepCall e = IsCall refused_step (IsStep e)
 
 abbrev pub IsByCall : ℕ → ℕ → RawStep → CoreState → StepResult → CoreState → Type 0
 IsByCall kind m e =
-    IsCall refused_step (λ a u b. IsMade a (maker_asked kind m) (made_step e) u b × TellsNoEarlyEnd (u.event ≡ 3) u.number b)
+    IsCall refused_step (λ a u b. IsMakerResult a (maker_asked kind m) (made_step e) u b × TellsNoEarlyEnd (u.event ≡ 3) u.number b)
 
 -- Refused as its first event is: no event was taken, and the first place of the buffer has the refusal, if there are an event
 -- and a place.

@@ -4,7 +4,8 @@ use Rattle.std.specs.Prelude.{ℕ, ◌≡◌, Bool, true, false, Option, Some, R
 use Rattle.tp_process.specs.declared.{outcome.Refusal.Refusal, process.Process.Process, task_counts.TaskCounts.TaskCounts}
 use Rattle.tp_process.specs.State.{ProcessState}
 pub use Rattle.tp_process.specs.Tasks.{Tasks, added, added_due, began, begin_refusal, completed, done_refusal, dropped, give_refusal, given}
-pub use Rattle.tp_process.specs.Tasks.{is_idle, make_refusal, new_tasks, opening_refusal, process_after_receive, process_after_send, process_after_settle}
+pub use Rattle.tp_process.specs.Tasks.{is_idle, make_refusal, new_tasks, opening_refusal}
+pub use Rattle.tp_process.specs.Tasks.{process_after_receive, process_after_send, process_after_settle}
 pub use Rattle.tp_process.specs.Tasks.{read_tasks, receive_task_refusal, send_task_refusal, settle_result, tasks_after_receive}
 pub use Rattle.tp_process.specs.Tasks.{tasks_after_reopen, tasks_after_send, without_opening}
 

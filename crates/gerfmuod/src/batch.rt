@@ -3,7 +3,7 @@ ghost use Rattle.std.specs.Prelude.{◌≡◌, ◌≤◌, length};
 ghost use Rattle.gerfmuod.specs.Calls.{IsBatch, IsStepsCall};
 
 use crate::answer::StepResult;
-use crate::calls::{not_taken, told};
+use crate::calls::{not_taken, step_result};
 use crate::pool::BoundedCore;
 use crate::raw_step::{RawStep, step_of};
 use crate::slot::CoreSlot;
@@ -14,7 +14,7 @@ fn taken(room: &mut BoundedCore, steps: &[RawStep], answers: &mut [StepResult]) 
     ensures { IsBatch steps.now answers.old room.old result answers.new room.new }
 {
     for count in 0..steps.len() {
-        let answer = told(room, step_of(steps[count]));
+        let answer = step_result(room, step_of(steps[count]));
         answers[count] = answer;
         if answer.refused != 0 {
             return count;

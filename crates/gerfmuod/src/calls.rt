@@ -2,8 +2,10 @@
 ghost use Rattle.std.specs.Prelude.{◌≡◌, ◌≢◌, ◌&&◌, IsTrue, None, OnSome, option_map};
 ghost use Rattle.gerfmuod.specs.Calls.{number_of, no_numbers, world_of, InEach, is_maker, plain, IsNeverEarly, is_quiet, counters};
 ghost use Rattle.gerfmuod.specs.Calls.{IsSettled, IsStep, IsByCall, IsCountersCall, IsSettleCall, IsStepCall};
-ghost use Rattle.gerfmuod.specs.Calls.{IsStatusCall, IsLeftCall, left_as, left_task, refused_step, IsReserveCall, made_step, maker_asked, IsMade, has_plain_reply};
-ghost use Rattle.gerfmuod.specs.Calls.{is_ending_if, refusal_told, reply_told, IsTold, raw_step, TellsNoEarlyEnd, opening, refusal_of};
+ghost use Rattle.gerfmuod.specs.Calls.{IsStatusCall, IsLeftCall, left_as, left_task, refused_step};
+ghost use Rattle.gerfmuod.specs.Calls.{IsReserveCall, made_step, maker_asked, IsMakerResult, has_plain_reply};
+ghost use Rattle.gerfmuod.specs.Calls.{is_ending_if, refusal_result, reply_result, IsStepResult};
+ghost use Rattle.gerfmuod.specs.Calls.{raw_step, TellsNoEarlyEnd, opening, refusal_of};
 
 use crate::answer::{Counters, LeftTask, Settled, Status, StepResult};
 use crate::pool::BoundedCore;
@@ -63,7 +65,7 @@ fn plain(refused: u16, event: u16, number: u32) -> StepResult
 #[cold]
 #[inline(never)]
 fn rare_reply(reply: Reply) -> StepResult
-    ensures { result ≡ reply_told reply }
+    ensures { result ≡ reply_result reply }
 {
     match reply {
         Reply::Plain => plain(0, 0, 0),
@@ -89,7 +91,7 @@ fn refusal_number(refusal: Refusal) -> u16
 /// Returns the result of a refused step.
 #[inline(always)]
 fn of_refusal(refusal: Refusal) -> StepResult
-    ensures { result ≡ refusal_told refusal }
+    ensures { result ≡ refusal_result refusal }
 {
     let number = match refusal {
         Refusal::HistoryFull(steps) => steps,
@@ -145,7 +147,7 @@ fn by_fields(answer: StepResult) -> StepResult
 /// Returns the result of a step that was taken and after which something is left.
 #[inline(always)]
 fn of_reply(reply: Reply) -> StepResult
-    ensures { result ≡ reply_told reply }
+    ensures { result ≡ reply_result reply }
 {
     match reply {
         // the case of most steps
@@ -157,8 +159,8 @@ fn of_reply(reply: Reply) -> StepResult
 /// Takes the next step if there is one, and returns the result for C.
 #[inline(always)]
 #[tactic(auto, using(crate::proofs::Steps::reply_safe))]
-pub(crate) fn told(room: &mut BoundedCore, step: Option<Step>) -> StepResult
-    ensures told { IsTold room.old step result room.new }
+pub(crate) fn step_result(room: &mut BoundedCore, step: Option<Step>) -> StepResult
+    ensures step_result { IsStepResult room.old step result room.new }
     ensures safe { TellsNoEarlyEnd (result.event ≡ 3) result.number room.new }
 {
     let ends = is_ending(step);
@@ -174,11 +176,11 @@ pub(crate) fn told(room: &mut BoundedCore, step: Option<Step>) -> StepResult
     }
 }
 
-/// Takes the next step if there is one, as `told` does. All that such a step can show is that nothing is left.
+/// Takes the next step if there is one, as `step_result` does. All that such a step can show is that nothing is left.
 #[inline(always)]
-fn told_plainly(room: &mut BoundedCore, step: Option<Step>) -> StepResult
+fn plain_step_result(room: &mut BoundedCore, step: Option<Step>) -> StepResult
     requires { IsTrue (has_plain_reply step) }
-    ensures { IsTold room.old step result room.new × TellsNoEarlyEnd (result.event ≡ 3) result.number room.new }
+    ensures { IsStepResult room.old step result room.new × TellsNoEarlyEnd (result.event ≡ 3) result.number room.new }
 {
     let ends = is_ending(step);
     match room.take(step) {
@@ -198,12 +200,12 @@ fn told_plainly(room: &mut BoundedCore, step: Option<Step>) -> StepResult
 #[cold]
 #[inline(never)]
 fn no_step(room: &mut BoundedCore) -> StepResult
-    ensures { IsTold room.old None result room.new × TellsNoEarlyEnd (result.event ≡ 3) result.number room.new }
+    ensures { IsStepResult room.old None result room.new × TellsNoEarlyEnd (result.event ≡ 3) result.number room.new }
 {
-    told(room, None)
+    step_result(room, None)
 }
 
-/// Takes the next step. Each kind of steps of tasks and messages has a copy of what follows: told the kind once, it
+/// Takes the next step. Each kind of steps of tasks and messages has a copy of what follows: step_result the kind once, it
 /// does not build the step and match it again.
 #[inline(always)]
 fn taken(room: &mut BoundedCore, raw: RawStep) -> StepResult
@@ -211,14 +213,14 @@ fn taken(room: &mut BoundedCore, raw: RawStep) -> StepResult
 {
     let (first, second, third) = (raw.first, raw.second, raw.third);
     match raw.kind {
-        0 => told_plainly(room, insert_step(first, second, third)),
-        1 => told_plainly(room, Some(Step::Supply(TaskId(first)))),
-        2 => told_plainly(room, Some(Step::Begin(TaskId(first)))),
-        3 => told_plainly(room, Some(Step::Done(TaskId(first)))),
-        7 => told_plainly(room, other_step(raw)),
-        8 => told_plainly(room, other_step(raw)),
-        9 => told_plainly(room, other_step(raw)),
-        _ => told(room, step_of(raw)),
+        0 => plain_step_result(room, insert_step(first, second, third)),
+        1 => plain_step_result(room, Some(Step::Supply(TaskId(first)))),
+        2 => plain_step_result(room, Some(Step::Begin(TaskId(first)))),
+        3 => plain_step_result(room, Some(Step::Done(TaskId(first)))),
+        7 => plain_step_result(room, other_step(raw)),
+        8 => plain_step_result(room, other_step(raw)),
+        9 => plain_step_result(room, other_step(raw)),
+        _ => step_result(room, step_of(raw)),
     }
 }
 
@@ -268,16 +270,21 @@ fn is_made_by(room: &BoundedCore, kind: u32, number: u32, step: Step) -> Option<
 
 /// Takes the next step if its maker may make it.
 #[inline(always)]
-fn told_by(room: &mut BoundedCore, maker_kind: u32, maker: u32, step: Option<Step>) -> StepResult
+fn result_for_maker(
+    room: &mut BoundedCore,
+    maker_kind: u32,
+    maker: u32,
+    step: Option<Step>,
+) -> StepResult
     requires { IsTrue (has_plain_reply step) }
-    ensures { IsMade room.old (maker_asked maker_kind maker) step result room.new
+    ensures { IsMakerResult room.old (maker_asked maker_kind maker) step result room.new
         × TellsNoEarlyEnd (result.event ≡ 3) result.number room.new }
 {
     let Some(made) = step else {
         return by_fields(no_step(room));
     };
     match is_made_by(room, maker_kind, maker, made) {
-        Some(true) => told_plainly(room, step),
+        Some(true) => plain_step_result(room, step),
         Some(false) => plain(NO_MAKER, 0, 0),
         None => by_fields(no_step(room)),
     }
@@ -286,19 +293,19 @@ fn told_by(room: &mut BoundedCore, maker_kind: u32, maker: u32, step: Option<Ste
 /// Takes the next step if its maker may make it. Each kind has a copy of what follows, as in `taken`.
 #[inline(always)]
 fn taken_by(room: &mut BoundedCore, maker_kind: u32, maker: u32, raw: RawStep) -> StepResult
-    ensures { IsMade room.old (maker_asked maker_kind maker) (made_step raw) result room.new
+    ensures { IsMakerResult room.old (maker_asked maker_kind maker) (made_step raw) result room.new
         × TellsNoEarlyEnd (result.event ≡ 3) result.number room.new }
 {
     let (first, second, third) = (raw.first, raw.second, raw.third);
     let by = maker_kind;
     match raw.kind {
-        0 => told_by(room, by, maker, insert_step(first, second, third)),
-        1 => told_by(room, by, maker, Some(Step::Supply(TaskId(first)))),
-        2 => told_by(room, by, maker, Some(Step::Begin(TaskId(first)))),
-        3 => told_by(room, by, maker, Some(Step::Done(TaskId(first)))),
-        4 => told_by(room, by, maker, other_step(raw)),
-        7 => told_by(room, by, maker, other_step(raw)),
-        _ => told_by(room, by, maker, None),
+        0 => result_for_maker(room, by, maker, insert_step(first, second, third)),
+        1 => result_for_maker(room, by, maker, Some(Step::Supply(TaskId(first)))),
+        2 => result_for_maker(room, by, maker, Some(Step::Begin(TaskId(first)))),
+        3 => result_for_maker(room, by, maker, Some(Step::Done(TaskId(first)))),
+        4 => result_for_maker(room, by, maker, other_step(raw)),
+        7 => result_for_maker(room, by, maker, other_step(raw)),
+        _ => result_for_maker(room, by, maker, None),
     }
 }
 

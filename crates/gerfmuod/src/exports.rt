@@ -1,6 +1,7 @@
 //! The exported functions on a core. `gerfmuod/core.h` declares them, and says for which reasons each is refused.
 ghost use Rattle.gerfmuod.specs.Calls.{IsByCall, IsClosed, IsCountersCall, IsRestartCall, IsSettleCall, IsStepCall, IsTraceCall};
-ghost use Rattle.gerfmuod.specs.Calls.{IsLeftCall, IsReserveCall, IsStepsCall, IsStatusCall, raw_step, CoreState, opened, opened_as, opening};
+ghost use Rattle.gerfmuod.specs.Calls.{IsLeftCall, IsReserveCall, IsStepsCall, IsStatusCall};
+ghost use Rattle.gerfmuod.specs.Calls.{raw_step, CoreState, opened, opened_as, opening};
 ghost use Rattle.gerfmuod.specs.contracts.slot.CoreSlot.{the_row as slot_row};
 ghost use Rattle.std.specs.{Borrow.{full_share, sem}, Prelude.{◌≡◌, ◌≤◌, false}, Ptr.{lies_at, room_at}};
 

@@ -28,7 +28,7 @@ impl Model for BoundedCore {
 impl BoundedCore {
     ghost use Rattle.std.specs.Prelude.{◌≡◌, ◌≢◌, ◌≤◌, IfErr, IsTrue, reverse, length};
     ghost use Rattle.gerfmuod.specs.Calls.{number_of, MAX_NODES, MAX_STEPS, world_of, AreRuns};
-    ghost use Rattle.gerfmuod.specs.Calls.{InEach, is_maker, IsNeverEarly, Settles, list_length, new_core_of, room_of, AnswersTo};
+    ghost use Rattle.gerfmuod.specs.Calls.{InEach, is_maker, IsNeverEarly, Settles, list_length, new_core_of, room_of, AcceptsIfAny};
 
     /// Returns a pool of the nodes 0 to `nodes` - 1, 1 to 8 of them, with a list of its steps or without. It allocates nothing.
     pub(crate) fn new(alloc: Global, nodes: u32, recorded: bool) -> BoundedCore
@@ -109,7 +109,7 @@ impl BoundedCore {
     #[inline(always)]
     #[tactic(auto, using(crate::proofs::Steps::kept_never_early))]
     pub(crate) fn take(&mut self, step: Option<Step>) -> Result<Reply, Refusal>
-        ensures answers { AnswersTo self.old step result self.new }
+        ensures answers { AcceptsIfAny self.old step result self.new }
         ensures never_early { InEach (IsNeverEarly self.new.nodes) self.new.steps }
     {
         let taken = self.core.steps().len() as u32;

@@ -2,7 +2,8 @@
 //! `gerfmuod/process.h` declares. The counts are plain data in the caller's memory.
 
 ghost use Rattle.gerfmuod.specs.Tasks.{added, added_due, began, begin_refusal, completed, done_refusal, dropped, give_refusal, given};
-ghost use Rattle.gerfmuod.specs.Tasks.{is_idle, make_refusal, new_tasks, opening_refusal, process_after_receive, process_after_send, process_after_settle};
+ghost use Rattle.gerfmuod.specs.Tasks.{is_idle, make_refusal, new_tasks, opening_refusal};
+ghost use Rattle.gerfmuod.specs.Tasks.{process_after_receive, process_after_send, process_after_settle};
 ghost use Rattle.gerfmuod.specs.Tasks.{read_tasks, receive_task_refusal, send_task_refusal, settle_result, settled_as, tasks_after_receive};
 ghost use Rattle.gerfmuod.specs.Tasks.{tasks_after_reopen, tasks_after_send, without_opening, IsJointCall, IsTasksCall};
 ghost use Rattle.gerfmuod.specs.Wire.{checked, if_open, read, reopen_refusal, reopened, IsKept};

@@ -34,7 +34,7 @@ fn sums_text<R: Threads + Wait + Sync + Env + Input + AllocGlobal>(
     let mut text = String::new(alloc);
     let Some(numbers) = numbers_of(rt)? else {
         writeln!(text, "a line is no whole number of 64 bits")?;
-        return Err(Ending::Told(Status::Refused, text));
+        return Err(Ending::ErrorLine(Status::Refused, text));
     };
     match prefix_sums(rt, alloc, &numbers, config) {
         Ok(sums) => {
@@ -45,7 +45,7 @@ fn sums_text<R: Threads + Wait + Sync + Env + Input + AllocGlobal>(
         }
         Err(fault) => {
             let status = complain(&mut text, &fault, numbers.len())?;
-            Err(Ending::Told(status, text))
+            Err(Ending::ErrorLine(status, text))
         }
     }
 }

@@ -4,8 +4,9 @@ use Rattle.std.{proofs.{Common.{◌∙◌, cond, arith}, lemmas.Bool.Decides.nat
 use Rattle.std.specs.{Prelude.{OnErr, OnOk, if◌then◌else◌, ◌<◌, ◌≤◌, is_none, is_some, nat_lt, ◌+◌, length}, Result.result_err}
 use Rattle.tp_base.specs.{Checks.{Check, first_refusal}, declared.refusal.Refusal.{Refusal, TheVariants.{HistoryFull, NoMemory, NotIdle}}}
 use Rattle.tp_base.specs.declared.step.Step.{Step, TheVariants.{Start, Down, Give, Up, Judge}}
-use Rattle.tp_board.{proofs.Answering.same_answer, specs.{Numbers.node_at, States.{AnswersBy, BoardState, IsAtPiece, full_check}}}
-use Rattle.tp_board.specs.{States.{step_checks, visit_checks, with_event}, Turns.{ComesTo, IsMade, Makes, MakesFirst, control_event, ends}}
+use Rattle.tp_board.{proofs.Answering.same_answer, specs.{Numbers.node_at, States.{IsCheckedFor, BoardState, IsAtPiece, full_check}}}
+use Rattle.tp_board.specs.States.{step_checks, visit_checks, with_event}
+use Rattle.tp_board.specs.Turns.{ComesTo, MovesOrEnds, Makes, MakesFirst, control_event, ends}
 use Rattle.tp_board.specs.{Turns.{is_for_room, may_make, turn_checks, turn_steps, wave_steps}, declared.turn.Turn.{Turn, TheVariants.Idle}}
 use Rattle.tp_wave.specs.{ControlChecks.control_checks, Generations.{present, present_events}, Machine.{pending_at, steps_of}}
 use Rattle.tp_wave.specs.Sums.{judgement}
@@ -16,11 +17,12 @@ AreOfWaves [] = Unit {0}
 AreOfWaves (c ∷ cs) = (is_for_room c.1 ≡ false) × AreOfWaves cs
 
 -- The refusal of a call that makes these checks and then reserves a place: one of them, or for the place.
-split : {A : Type 0} (cs : List Check) (b : BoardState) (r : Result A Refusal) → AreOfWaves cs → AnswersBy (cs ++ full_check 1 b ∷ []) 1 b r
-    → MatchOption (first_refusal cs) (AnswersBy (full_check 1 b ∷ []) 1 b r) (λ e. (r ≡ Err e) × (is_for_room e ≡ false))
+split : {A : Type 0} (cs : List Check) (b : BoardState) (r : Result A Refusal) → AreOfWaves cs
+    → IsCheckedFor (cs ++ full_check 1 b ∷ []) 1 b r
+    → MatchOption (first_refusal cs) (IsCheckedFor (full_check 1 b ∷ []) 1 b r) (λ e. (r ≡ Err e) × (is_for_room e ≡ false))
 split [] b r all answer = answer
 split (c ∷ cs) b r all answer =
-    let want : Type 0 = AnswersBy (full_check 1 b ∷ []) 1 b r in
+    let want : Type 0 = IsCheckedFor (full_check 1 b ∷ []) 1 b r in
     let refused : Refusal → Type 0 = λ e. (r ≡ Err e) × (is_for_room e ≡ false) in
     elim c.0 as (λ t.
     MatchOption (if t then Some c.1 else first_refusal (cs ++ full_check 1 b ∷ [])) (IfErr r (λ e. (e ≡ NoMemory) × (b.reserved < 1)))
@@ -31,7 +33,7 @@ split (c ∷ cs) b r all answer =
 
 -- ---- room for the event
 -- If a place is reserved, lack of room is the only refusal.
-room : {A : Type 0} (b : BoardState) (e : Refusal) (r : Result A Refusal) → r ≡ Err e → AnswersBy (full_check 1 b ∷ []) 1 b r
+room : {A : Type 0} (b : BoardState) (e : Refusal) (r : Result A Refusal) → r ≡ Err e → IsCheckedFor (full_check 1 b ∷ []) 1 b r
     → is_for_room e ≡ true
 room {A} b e r is answer =
     elim (nat_lt b.limit (length b.history + 1)) as (λ t.
@@ -62,12 +64,12 @@ module _ {A K : Type 0} (n : ℕ) (s : Step) (old new : BoardState) (ended : A �
   refused_with e for_room = if for_room then Err e else Ok Idle
 
   -- if its checks pass
-  made : (r : Result A Refusal) (q : Result (Turn K) Refusal) → IsTried n s old new ended r q → AnswersBy (full_check 1 old ∷ []) 1 old r
+  made : (r : Result A Refusal) (q : Result (Turn K) Refusal) → IsTried n s old new ended r q → IsCheckedFor (full_check 1 old ∷ []) 1 old r
       → Makes n s old new q
   made (Ok x) (Ok turn) h answer =
       record {
         event = h.event;
-        answer = subst (λ b. IsMade b turn) h.over h.answer;
+        answer = subst (λ b. MovesOrEnds b turn) h.over h.answer;
         refusal = same_answer (full_check 1 old ∷ []) 1 old (Ok x) (Ok turn) refl answer;
         piece = tt;
         refused = tt;
@@ -100,7 +102,7 @@ module _ {A K : Type 0} (n : ℕ) (s : Step) (old new : BoardState) (ended : A �
   -- either, by the first check that holds
   first : (i : ℕ) (o : Option Refusal) (r : Result A Refusal) (q : Result (Turn K) Refusal) → IsTried n s old new ended r q
       → o ≡ first_refusal (turn_checks n i old.history s)
-      → MatchOption o (AnswersBy (full_check 1 old ∷ []) 1 old r) (λ e. (r ≡ Err e) × (is_for_room e ≡ false))
+      → MatchOption o (IsCheckedFor (full_check 1 old ∷ []) 1 old r) (λ e. (r ≡ Err e) × (is_for_room e ≡ false))
       → MakesFirst n i (s ∷ []) old new q
   first i None r q h is answer =
       record {
@@ -118,7 +120,7 @@ module _ {A K : Type 0} (n : ℕ) (s : Step) (old new : BoardState) (ended : A �
   -- a call that makes these checks of the step and then reserves a place
   tried : (i : ℕ) (cs : List Check) (r : Result A Refusal) (q : Result (Turn K) Refusal) → IsTried n s old new ended r q
       → first_refusal cs ≡ first_refusal (turn_checks n i old.history s) → AreOfWaves cs
-      → AnswersBy (cs ++ full_check 1 old ∷ []) 1 old r → MakesFirst n i (s ∷ []) old new q
+      → IsCheckedFor (cs ++ full_check 1 old ∷ []) 1 old r → MakesFirst n i (s ∷ []) old new q
   tried i cs r q h is all answer = first i (first_refusal cs) r q h is (split cs old r all answer)
 
 never : {A : Type 0} (r : Result A Refusal) → IfOk r (λ x. false ≡ false)
@@ -136,7 +138,8 @@ known n old new r q s is ok piece refused comes =
 -- the result of a call of the board, and of the turn, by their clauses
 module _ {A K : Type 0} {n i : ℕ} {old new : BoardState} {q : Result (Turn K) Refusal} (r : Result A Refusal) where
   pub down_tried : OnOk r (new ≡ with_event (control_event (Down (node_at i))) old)
-      → AnswersBy (step_checks n old (Down (node_at i))) 1 old r → IfErr r (IsAtPiece old) → OnErr r (new ≡ old) → ComesTo (λ _. false) r q
+      → IsCheckedFor (step_checks n old (Down (node_at i))) 1 old r → IfErr r (IsAtPiece old) → OnErr r (new ≡ old)
+      → ComesTo (λ _. false) r q
       → MakesFirst n i (Down (node_at i) ∷ []) old new q
   down_tried ok answer piece refused comes =
       tried n (Down (node_at i)) old new (λ _.
@@ -144,14 +147,14 @@ module _ {A K : Type 0} {n i : ℕ} {old new : BoardState} {q : Result (Turn K) 
       (known n old new r q (Down (node_at i)) refl ok piece refused comes) refl (refl, (refl, (refl, tt))) answer
 
   pub up_tried : {c : ℕ} → OnOk r (new ≡ with_event (control_event (Up (node_at c))) old)
-      → AnswersBy (step_checks n old (Up (node_at c))) 1 old r → IfErr r (IsAtPiece old) → OnErr r (new ≡ old) → ComesTo (λ _. false) r q
+      → IsCheckedFor (step_checks n old (Up (node_at c))) 1 old r → IfErr r (IsAtPiece old) → OnErr r (new ≡ old) → ComesTo (λ _. false) r q
       → MakesFirst n i (Up (node_at c) ∷ []) old new q
   up_tried {c} ok answer piece refused comes =
       tried n (Up (node_at c)) old new (λ _.
       false) i (control_checks n (present (steps_of old.history)) (Up (node_at c))) r q
       (known n old new r q (Up (node_at c)) refl ok piece refused comes) refl (refl, (refl, (refl, tt))) answer
 
-  pub give_tried : OnOk r (new ≡ with_event (control_event (Give (node_at i))) old) → AnswersBy (visit_checks n old (node_at i)) 1 old r
+  pub give_tried : OnOk r (new ≡ with_event (control_event (Give (node_at i))) old) → IsCheckedFor (visit_checks n old (node_at i)) 1 old r
       → IfErr r (IsAtPiece old) → OnErr r (new ≡ old) → ComesTo (λ _. false) r q → MakesFirst n i (Give (node_at i) ∷ []) old new q
   give_tried ok answer piece refused comes =
       tried n (Give (node_at i)) old new (λ _.
@@ -159,7 +162,7 @@ module _ {A K : Type 0} {n i : ℕ} {old new : BoardState} {q : Result (Turn K) 
       refl (refl, (refl, (refl, (refl, tt)))) answer
 
   pub start_tried : pending_at i (present_events old.history) ≡ 0 → OnOk r (new ≡ with_event (control_event Start) old)
-      → AnswersBy (step_checks n old Start) 1 old r → IfErr r (IsAtPiece old) → OnErr r (new ≡ old)
+      → IsCheckedFor (step_checks n old Start) 1 old r → IfErr r (IsAtPiece old) → OnErr r (new ≡ old)
       → ComesTo (λ _. false) r q → MakesFirst n i (Start ∷ []) old new q
   start_tried idle ok answer piece refused comes =
       let cs = control_checks n (present (steps_of old.history)) Start in
@@ -167,7 +170,7 @@ module _ {A K : Type 0} {n i : ℕ} {old new : BoardState} {q : Result (Turn K) 
       tried n Start old new (λ _. false) i cs r q (known n old new r q Start refl ok piece refused comes) is (refl, (refl, tt)) answer
 
   pub judge_tried : (ended : A → Bool) → IfOk r (λ x. ended x ≡ is_some (judgement n (present (steps_of old.history))))
-      → OnOk r (new ≡ with_event (control_event Judge) old) → AnswersBy (step_checks n old Judge) 1 old r → IfErr r (IsAtPiece old)
+      → OnOk r (new ≡ with_event (control_event Judge) old) → IsCheckedFor (step_checks n old Judge) 1 old r → IfErr r (IsAtPiece old)
       → OnErr r (new ≡ old)
       → ComesTo ended r q → MakesFirst n i (Judge ∷ []) old new q
   judge_tried ended over ok answer piece refused comes =
@@ -219,7 +222,7 @@ first_or s rest may = cond may (Some s) rest
 unmade : {K : Type 0} (n i : ℕ) (s : Step) (old mid : BoardState) (may : Bool) (turn : Turn K) → may ≡ may_make n i old.history s
     → turn ≡ Idle → MakesFirst n i (s ∷ []) old mid (Ok turn) → (may ≡ false) × (mid ≡ old)
 unmade n i s old mid true turn is idle one =
-    absurd (subst (λ t. IsMade (ends n old.history s) t) idle (one.some s (sym (ap (first_or s None) is))).answer)
+    absurd (subst (λ t. MovesOrEnds (ends n old.history s) t) idle (one.some s (sym (ap (first_or s None) is))).answer)
 unmade n i s old mid false turn is idle one = (refl, (one.none (sym (ap (first_or s None) is))).1)
 
 pub unchanged : {K : Type 0} {n i : ℕ} {s : Step} {old mid : BoardState} {turn : Turn K} → MakesFirst n i (s ∷ []) old mid (Ok turn)

@@ -11,14 +11,15 @@ pub record Appends (events : List Event) (old new : BoardState) : Type 0 where
   pub fault : new.fault ≡ old.fault
 
 -- A call that makes these checks returns the first refusal that applies. If none does, it succeeds, or an allocation fails.
-abbrev pub AnswersFirst : {A : Type 0} → List Check → Result A Refusal → Type 0
-AnswersFirst checks result = MatchOption (first_refusal checks) (IfErr result (λ e. e ≡ NoMemory)) (λ e. result ≡ Err e)
+abbrev pub IsChecked : {A : Type 0} → List Check → Result A Refusal → Type 0
+IsChecked checks result = MatchOption (first_refusal checks) (IfErr result (λ e. e ≡ NoMemory)) (λ e. result ≡ Err e)
 
 -- The same, if what was moved in is returned with the refusal.
-abbrev pub AnswersWith : {A B : Type 0} → List Check → B → Result A (Refusal × B) → Type 0
-AnswersWith checks back result = MatchOption (first_refusal checks) (IfErr result (λ e. e ≡ (NoMemory, back))) (λ e. result ≡ Err (e, back))
+abbrev pub IsCheckedWith : {A B : Type 0} → List Check → B → Result A (Refusal × B) → Type 0
+IsCheckedWith checks back result =
+    MatchOption (first_refusal checks) (IfErr result (λ e. e ≡ (NoMemory, back))) (λ e. result ≡ Err (e, back))
 
 -- The same of a call that allocates only for this many events, and fails only if it had to allocate.
-abbrev pub AnswersByWith : {A B : Type 0} → List Check → ℕ → BoardState → B → Result A (Refusal × B) → Type 0
-AnswersByWith checks more b back result =
+abbrev pub IsCheckedForWith : {A B : Type 0} → List Check → ℕ → BoardState → B → Result A (Refusal × B) → Type 0
+IsCheckedForWith checks more b back result =
     MatchOption (first_refusal checks) (IfErr result (λ e. (e ≡ (NoMemory, back)) × (b.reserved < more))) (λ e. result ≡ Err (e, back))

@@ -32,8 +32,8 @@ full_check more b = (nat_lt b.limit (length b.history + more), HistoryFull (leng
 
 -- A call that needs this many events and makes these checks returns the first refusal that applies. If none does, it
 -- succeeds, or an allocation fails that it had to make.
-abbrev pub AnswersBy : {A : Type 0} → List Check → ℕ → BoardState → Result A Refusal → Type 0
-AnswersBy checks more b result =
+abbrev pub IsCheckedFor : {A : Type 0} → List Check → ℕ → BoardState → Result A Refusal → Type 0
+IsCheckedFor checks more b result =
     MatchOption (first_refusal checks) (IfErr result (λ e. (e ≡ NoMemory) × (b.reserved < more))) (λ e. result ≡ Err e)
 
 -- A call fails to allocate only if the next event is the first of a piece of 1,024, in which a history is stored.

@@ -4,7 +4,7 @@ use Rattle.std.specs.Prelude.{None, is_some, is_none, if◌then◌else◌, Resul
 use Rattle.tp_base.specs.{Checks.{Check, first_refusal}, History.Event, declared.refusal.Refusal.{Refusal, TheVariants.HistoryFull}}
 use Rattle.tp_base.specs.declared.{refusal.Refusal.TheVariants.{NoMemory, NotIdle}, step.Step.{Step, TheVariants.{Start, Down, Give, Up}}}
 use Rattle.tp_base.specs.declared.step.Step.TheVariants.{Judge}
-use Rattle.tp_board.specs.{Numbers.{event, node_at}, States.{AnswersBy, BoardState, IsAtPiece, full_check, with_event}}
+use Rattle.tp_board.specs.{Numbers.{event, node_at}, States.{IsCheckedFor, BoardState, IsAtPiece, full_check, with_event}}
 use Rattle.tp_board.specs.declared.turn.Turn.{Turn, TheVariants.{Idle, Moved, Over}}
 use Rattle.tp_wave.specs.{ControlChecks.control_checks, Generations.{present, present_events}, Machine.{pending_at, steps_of}}
 use Rattle.tp_wave.specs.{Steps.is_judge, Sums.judgement}
@@ -46,17 +46,17 @@ abbrev pub ends : ℕ → List Event → Step → Bool
 ends n h s = is_judge s && is_some (judgement n (present (steps_of h)))
 
 -- the result of a turn that made a step, given whether the step detected termination
-abbrev pub IsMade : {K : Type 0} → Bool → Turn K → Type 0
-IsMade ended Idle = ⊥
-IsMade ended Moved = IsFalse ended
-IsMade ended (Over e) = IsTrue ended
+abbrev pub MovesOrEnds : {K : Type 0} → Bool → Turn K → Type 0
+MovesOrEnds ended Idle = ⊥
+MovesOrEnds ended Moved = IsFalse ended
+MovesOrEnds ended (Over e) = IsTrue ended
 
 -- ---- a turn among some of the control steps
 -- the step was made
 pub record Makes {K : Type 0} (n : ℕ) (s : Step) (old new : BoardState) (result : Result (Turn K) Refusal) : Type 0 where
   pub event : OnOk result (new ≡ with_event (control_event s) old)
-  pub answer : IfOk result (IsMade (ends n old.history s))
-  pub refusal : AnswersBy (full_check 1 old ∷ []) 1 old result
+  pub answer : IfOk result (MovesOrEnds (ends n old.history s))
+  pub refusal : IsCheckedFor (full_check 1 old ∷ []) 1 old result
   pub piece : IfErr result (IsAtPiece old)
   pub refused : OnErr result (new ≡ old)
 
@@ -73,5 +73,5 @@ is_for_room _ = false
 
 -- the result of trying a step, if its result shows whether it detected termination: a step that may not be made now is none
 abbrev pub ComesTo : {A K : Type 0} → (A → Bool) → Result A Refusal → Result (Turn K) Refusal → Type 0
-ComesTo ended (Ok x) result = IsOkAnd result (IsMade (ended x))
+ComesTo ended (Ok x) result = IsOkAnd result (MovesOrEnds (ended x))
 ComesTo ended (Err e) result = result ≡ (if is_for_room e then Err e else Ok Idle)

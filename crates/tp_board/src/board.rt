@@ -2,7 +2,7 @@
 ghost use Rattle.std.specs.Prelude.{◌≡◌, ◌==◌, ◌≤◌, ◌<◌, ◌+◌, ◌-◌, ◌∷◌, ℕ, [], length, max, slice_index, IsTrue, IfErr, IfOk, IsOk, OnErr};
 ghost use Rattle.std.specs.Prelude.{OnOk, None};
 ghost use Rattle.tp_board.specs.{Books.first_totals, Names.under_parts, Numbers.{AreWithin, ending, event, is_done, is_plain, is_recv}};
-ghost use Rattle.tp_board.specs.{Numbers.{is_send, numbers_after, receiving, sending}, Routes.is_send_between, States.AnswersBy};
+ghost use Rattle.tp_board.specs.{Numbers.{is_send, numbers_after, receiving, sending}, Routes.is_send_between, States.IsCheckedFor};
 ghost use Rattle.tp_board.specs.States.{IsAtPiece, IsPastPiece, full_check, with_event, with_fault, with_reserved};
 ghost use Rattle.tp_wave.specs.{Cut.IsQuietHistory, Generations.{AreRuns, generation, present, present_events}, Machine.{IsOf, is_send_to}};
 ghost use Rattle.tp_wave.specs.{Machine.{pending_at, steps_of, under_way}, Steps.{any, count}, Sums.is_ended};
@@ -153,7 +153,7 @@ impl<K: Ledgers> Board<K> {
     pub fn reserve(&mut self, more: u32) -> Result<(), Refusal>
         ensures ok { OnOk result (self.new ≡ with_reserved (max self.old.reserved more) self.old) }
         ensures places { OnOk result (length self.old.history + more ≤ self.old.limit) }
-        ensures refusal { AnswersBy (full_check more self.old ∷ []) more self.old result }
+        ensures refusal { IsCheckedFor (full_check more self.old ∷ []) more self.old result }
         ensures piece { IfErr result (IsPastPiece more self.old) }
         ensures reserved { more ≤ self.old.reserved → IsOk result }
         ensures refused { OnErr result (self.new ≡ self.old) }
@@ -253,7 +253,7 @@ impl<K: Ledgers> Board<K> {
         ensures ok { OnOk result (self.new ≡ with_event (event shares.old.node step) self.old) }
         ensures shares { OnOk result (shares.new ≡ numbers_after step shares.old) }
         ensures within { OnOk result (AreWithin 1048576 shares.new) }
-        ensures refusal { AnswersBy (full_check 1 self.old ∷ []) 1 self.old result }
+        ensures refusal { IsCheckedFor (full_check 1 self.old ∷ []) 1 self.old result }
         ensures piece { IfErr result (IsAtPiece self.old) }
         ensures reserved { 0 < self.old.reserved → IsOk result }
         ensures refused { OnErr result ((self.new ≡ self.old) × (shares.new ≡ shares.old)) }
@@ -283,7 +283,7 @@ impl<K: Ledgers> Board<K> {
         ensures shares { OnOk result (shares.new ≡ record shares.old { sent = shares.old.sent + 1 }) }
         ensures within { OnOk result (AreWithin 1048576 shares.new) }
         ensures link { OnOk result (link.new ≡ record link.old { under = link.old.under + 1 }) }
-        ensures refusal { AnswersBy (full_check 1 self.old ∷ []) 1 self.old result }
+        ensures refusal { IsCheckedFor (full_check 1 self.old ∷ []) 1 self.old result }
         ensures piece { IfErr result (IsPastPiece 1 self.old) }
         ensures reserved { 0 < self.old.reserved → IsOk result }
         ensures refused { OnErr result ((self.new ≡ self.old) × (shares.new ≡ shares.old) × (link.new ≡ link.old)) }
@@ -319,7 +319,7 @@ impl<K: Ledgers> Board<K> {
             ≡ record shares.old { pending = shares.old.pending + 1; received = shares.old.received + 1 }) }
         ensures within { OnOk result (AreWithin 1048576 shares.new) }
         ensures link { OnOk result (link.new ≡ record link.old { under = link.old.under - 1 }) }
-        ensures refusal { AnswersBy (full_check 1 self.old ∷ []) 1 self.old result }
+        ensures refusal { IsCheckedFor (full_check 1 self.old ∷ []) 1 self.old result }
         ensures piece { IfErr result (IsAtPiece self.old) }
         ensures reserved { 0 < self.old.reserved → IsOk result }
         ensures refused { OnErr result ((self.new ≡ self.old) × (shares.new ≡ shares.old) × (link.new ≡ link.old)) }
@@ -343,7 +343,7 @@ impl<K: Ledgers> Board<K> {
             ≡ with_event (event shares.old.node (ending (generation (steps_of self.old.history)) shares.old.node message.0)) self.old) }
         ensures shares { OnOk result (shares.new ≡ record shares.old { pending = shares.old.pending - 1 }) }
         ensures within { OnOk result (AreWithin 1048576 shares.new) }
-        ensures refusal { AnswersBy (full_check 1 self.old ∷ []) 1 self.old result }
+        ensures refusal { IsCheckedFor (full_check 1 self.old ∷ []) 1 self.old result }
         ensures piece { IfErr result (IsAtPiece self.old) }
         ensures reserved { 0 < self.old.reserved → IsOk result }
         ensures refused { OnErr result ((self.new ≡ self.old) × (shares.new ≡ shares.old)) }

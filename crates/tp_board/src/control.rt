@@ -3,7 +3,7 @@ ghost use Rattle.std.specs.Prelude.{◌≡◌, ◌==◌, ◌≤◌, ◌<◌, ◌
 ghost use Rattle.std.specs.Prelude.{if◌then◌else◌};
 ghost use Rattle.tp_base.specs.declared.step.Step.TheVariants as steps;
 ghost use Rattle.tp_base.specs.Tree.{parent};
-ghost use Rattle.tp_board.specs.{Judgements.is_over, Numbers.{event, node_at}, States.{AnswersBy, IsAtPiece, step_checks, visit_checks}};
+ghost use Rattle.tp_board.specs.{Judgements.is_over, Numbers.{event, node_at}, States.{IsCheckedFor, IsAtPiece, step_checks, visit_checks}};
 ghost use Rattle.tp_board.specs.States.{with_event};
 ghost use Rattle.tp_wave.specs.{Cut.IsQuietHistory, Generations.{present, present_events}, Machine.steps_of, Sums.{is_ended, judgement}};
 ghost use Rattle.tp_wave.specs.Sums.{sums_of};
@@ -23,7 +23,7 @@ impl<K: Ledgers> Board<K> {
     pub fn start(&mut self, shares: &Shares<K>) -> Result<(), Refusal>
         requires root { shares.now.node ≡ 0 }
         ensures ok { OnOk result (self.new ≡ with_event (event 0 steps.Start) self.old) }
-        ensures refusal { AnswersBy (step_checks K.names.nodes self.old steps.Start) 1 self.old result }
+        ensures refusal { IsCheckedFor (step_checks K.names.nodes self.old steps.Start) 1 self.old result }
         ensures piece { IfErr result (IsAtPiece self.old) }
         ensures refused { OnErr result (self.new ≡ self.old) }
     {
@@ -41,7 +41,7 @@ impl<K: Ledgers> Board<K> {
     /// `HistoryFull`; `NoMemory`, which is possible at each 1,024th event.
     pub fn down(&mut self, shares: &Shares<K>) -> Result<(), Refusal>
         ensures ok { OnOk result (self.new ≡ with_event (event shares.now.node (steps.Down (node_at shares.now.node))) self.old) }
-        ensures refusal { AnswersBy (step_checks K.names.nodes self.old (steps.Down (node_at shares.now.node))) 1 self.old result }
+        ensures refusal { IsCheckedFor (step_checks K.names.nodes self.old (steps.Down (node_at shares.now.node))) 1 self.old result }
         ensures piece { IfErr result (IsAtPiece self.old) }
         ensures refused { OnErr result (self.new ≡ self.old) }
     {
@@ -61,7 +61,7 @@ impl<K: Ledgers> Board<K> {
         requires child { (1 ≤ child.0) × (child.0 < K.names.nodes) }
         requires parent { shares.now.node ≡ parent child.0 }
         ensures ok { OnOk result (self.new ≡ with_event (child, steps.Up child) self.old) }
-        ensures refusal { AnswersBy (step_checks K.names.nodes self.old (steps.Up child)) 1 self.old result }
+        ensures refusal { IsCheckedFor (step_checks K.names.nodes self.old (steps.Up child)) 1 self.old result }
         ensures piece { IfErr result (IsAtPiece self.old) }
         ensures refused { OnErr result (self.new ≡ self.old) }
     {
@@ -82,7 +82,7 @@ impl<K: Ledgers> Board<K> {
         ensures ok { OnOk result (self.new ≡ with_event (event shares.now.node (steps.Give (node_at shares.now.node))) self.old) }
         ensures sums { IfOk result (λ sums. sums
             ≡ (if shares.now.node == 0 then Some (sums_of K.names.nodes (present (steps_of self.new.history))) else None)) }
-        ensures refusal { AnswersBy (visit_checks K.names.nodes self.old (node_at shares.now.node)) 1 self.old result }
+        ensures refusal { IsCheckedFor (visit_checks K.names.nodes self.old (node_at shares.now.node)) 1 self.old result }
         ensures piece { IfErr result (IsAtPiece self.old) }
         ensures refused { OnErr result (self.new ≡ self.old) }
     {
@@ -109,7 +109,7 @@ impl<K: Ledgers> Board<K> {
         ensures over { IfOk result (λ j. is_over j ≡ is_some (judgement K.names.nodes (present (steps_of self.old.history)))) }
         ensures ended { IfOk result (λ j. is_over j ≡ is_ended K.names.nodes (present (steps_of self.new.history))) }
         ensures quiet { IfOk result (λ j. IsTrue (is_over j) → IsQuietHistory K.names.nodes (present_events self.new.history)) }
-        ensures refusal { AnswersBy (step_checks K.names.nodes self.old steps.Judge) 1 self.old result }
+        ensures refusal { IsCheckedFor (step_checks K.names.nodes self.old steps.Judge) 1 self.old result }
         ensures piece { IfErr result (IsAtPiece self.old) }
         ensures refused { OnErr result (self.new ≡ self.old) }
     {

@@ -3,7 +3,7 @@
 ghost use Rattle.std.specs.Prelude.{◌≡◌, ◌∷◌, ◌+◌, ◌≤◌, ◌<◌, [], length, max, IsTrue, IsFalse, IfErr, IfOk, IsOk, OnErr, OnOk, None};
 ghost use Rattle.tp_base.specs.declared.step.Step.TheVariants as steps;
 ghost use Rattle.tp_board.specs.{Counts.{AreFew, counts_at}, EventLogs.HasFew, Numbers.{event, is_done, is_recv, is_send, sending}};
-ghost use Rattle.tp_board.specs.{Routes.is_send_between, States.{AnswersBy, IsAtPiece, IsPastPiece, full_check, with_event, with_fault}};
+ghost use Rattle.tp_board.specs.{Routes.is_send_between, States.{IsCheckedFor, IsAtPiece, IsPastPiece, full_check, with_event, with_fault}};
 ghost use Rattle.tp_board.specs.States.{with_reserved};
 ghost use Rattle.tp_wave.specs.{Generations.{generation, present, present_events}, Machine.{IsOf, is_send_numbered, steps_of}, Steps.any};
 ghost use Rattle.tp_wave.specs.Steps.{count, is_reopen};
@@ -58,7 +58,7 @@ impl EventLog {
     pub fn reserve(&mut self, more: u32) -> Result<(), Refusal>
         ensures ok { OnOk result (self.new ≡ with_reserved (max self.old.reserved more) self.old) }
         ensures places { OnOk result (length self.old.history + more ≤ self.old.limit) }
-        ensures refusal { AnswersBy (full_check more self.old ∷ []) more self.old result }
+        ensures refusal { IsCheckedFor (full_check more self.old ∷ []) more self.old result }
         ensures piece { IfErr result (IsPastPiece more self.old) }
         ensures reserved { more ≤ self.old.reserved → IsOk result }
         ensures refused { OnErr result (self.new ≡ self.old) }
@@ -84,7 +84,7 @@ impl EventLog {
         requires kind { IsFalse (is_send step) × IsFalse (is_reopen step) }
         ensures ok { OnOk result (self.new ≡ with_event (event node.0 step) self.old) }
         ensures places { OnOk result (length self.old.history < 1048576) }
-        ensures refusal { AnswersBy (full_check 1 self.old ∷ []) 1 self.old result }
+        ensures refusal { IsCheckedFor (full_check 1 self.old ∷ []) 1 self.old result }
         ensures piece { IfErr result (IsAtPiece self.old) }
         ensures reserved { 0 < self.old.reserved → IsOk result }
         ensures refused { OnErr result (self.new ≡ self.old) }
@@ -111,7 +111,7 @@ impl EventLog {
         ensures small { IfOk result (λ m. m.0 < 1048576) }
         ensures fresh { IfOk result (λ m. IsFalse (any (is_send_numbered m.0) (present (steps_of self.old.history)))) }
         ensures places { OnOk result (length self.old.history < 1048576) }
-        ensures refusal { AnswersBy (full_check 1 self.old ∷ []) 1 self.old result }
+        ensures refusal { IsCheckedFor (full_check 1 self.old ∷ []) 1 self.old result }
         ensures piece { IfErr result (IsPastPiece 1 self.old) }
         ensures reserved { 0 < self.old.reserved → IsOk result }
         ensures refused { OnErr result (self.new ≡ self.old) }

@@ -3,7 +3,7 @@ use Rattle.clap.specs.Words.{App, HasMatchesOf, Row, Text, all_of, first_of, is_
 use Rattle.clap.specs.declared.parser.matches.{ArgMatches.{ArgMatches, TheViews.out-SubCommand}, SubCommand.SubCommand}
 use Rattle.std.proofs.Common.{◌≡◌, ◌≢◌, ◌∙◌, refl, ap, sym, subst, arith, ℕ, List, Option, Some, None, MatchOption, option_map, codes}
 use Rattle.std.{proofs.Common.{slice_index, unwrap_or}, specs.{Box.box_value, Prelude.Box}}
-use Rattle.tp_cli.specs.{Asked.{IsAskedBy, IsMadeBy}, Command.{IsNeither, asked, reading_word, tp_app}}
+use Rattle.tp_cli.specs.{Asked.{IsAskedBy, IsRequestOf}, Command.{IsNeither, asked, reading_word, tp_app}}
 use Rattle.tp_cli.specs.declared.{request.Request.Request, text.TextKind.{TextKind, TheVariants.{Script, Trace}}}
 
 -- the name and the rows of the subcommand that was found
@@ -66,9 +66,9 @@ neither_asked app words m is has neither =
 
 -- a request that what was found makes is what the arguments ask for
 pub request_asked : (app : App) (words : List Text) (m : ArgMatches) (request : Request) → app ≡ tp_app → HasMatchesOf app words m
-    → IsMadeBy (subcommand_rows_of m) request → IsAskedBy words request
+    → IsRequestOf (subcommand_rows_of m) request → IsAskedBy words request
 request_asked app words m request is has made =
-    subst (λ found. IsMadeBy found request) ((has (ap is_simple is)).1 ∙ ap (λ (a : App). subcommand_of a words) is) made
+    subst (λ found. IsRequestOf found request) ((has (ap is_simple is)).1 ∙ ap (λ (a : App). subcommand_of a words) is) made
 
 -- a request that was found
 pub some_asked : (o : Option Request) (P : Type 0) (Q : Request → Type 0) (request : Request) → o ≡ Some request → MatchOption o P Q

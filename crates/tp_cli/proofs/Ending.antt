@@ -1,7 +1,8 @@
 -- How the program ends, by its exit status.
 use Rattle.clap.specs.{Words.Text, declared.error.kind.ErrorKind.TheVariants.MissingSubcommand}
 use Rattle.pool_samples.specs.{Words.word_of, declared.any.AnyGraph.AnyGraph}
-use Rattle.std.proofs.Common.{◌≡◌, ◌≢◌, ◌∙◌, ◌*◌, ◌⊎◌, ℕ, zero, suc, false, true, List, Option, Result, Ok, Err, IfErr, IfOk, ap, arith, inl, inr}
+use Rattle.std.proofs.Common.{◌≡◌, ◌≢◌, ◌∙◌, ◌*◌, ◌⊎◌, ℕ, zero, suc, false, true, List}
+use Rattle.std.proofs.Common.{Option, Result, Ok, Err, IfErr, IfOk, ap, arith, inl, inr}
 use Rattle.std.proofs.Common.{refl, subst, sym}
 use Rattle.tp_base.specs.declared.refusal.Refusal.{Refusal}
 use Rattle.tp_cli.specs.{Asked.IsAskedBy, Ends.{HasFault, HasWritten, IsFaultOf, is_unwritten}, Faults.status_of, Runs.NamesNoGraph}

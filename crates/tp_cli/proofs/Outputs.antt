@@ -1,13 +1,16 @@
 -- What is printed of a run, and of several pools.
 use Rattle.pool_samples.{proofs.Keeping.any_keeps, specs.{Any.any_graph, declared.any.AnyGraph.AnyGraph}}
-use Rattle.std.proofs.Common.{◌≡◌, ◌∙◌, ◌+◌, ◌<◌, ◌≤◌, ◌++◌, ℕ, suc, List, [], ◌∷◌, Some, sym, ap, ap₂, subst, arith, length, take, append-nil}
+use Rattle.std.proofs.Common.{◌≡◌, ◌∙◌, ◌+◌, ◌<◌, ◌≤◌, ◌++◌, ℕ, suc, List, [], ◌∷◌, Some}
+use Rattle.std.proofs.Common.{sym, ap, ap₂, subst, arith, length, take, append-nil}
 use Rattle.std.proofs.{Common.drop_of_length-le, Math.Seq.take-suc, lemmas.List.{FromFn.{get_or-enumerate_from, length-enumerate_from}}}
 use Rattle.std.proofs.lemmas.{List.{flat_map_more, take-append-drop}, Option.slice_get-get_or, Slice.Zip.AllZip-right}
-use Rattle.std.specs.{List.{All, AllZip, enumerate_from, flat_map}, Prelude.{get_or, reverse, slice_get, IsSomeAnd, MatchOption, Option, None}}
+use Rattle.std.specs.List.{All, AllZip, enumerate_from, flat_map}
+use Rattle.std.specs.Prelude.{get_or, reverse, slice_get, IsSomeAnd, MatchOption, Option, None}
 use Rattle.tp_cli.specs.{Runs.{IsGenerationOf, IsRunBy}, declared.run.Plan.Plan}
 use Rattle.tp_graph.proofs.Left.{results_right}
 use Rattle.tp_wave.specs.Machine.{History}
-use Rattle.tp_work.{proofs.CountedTotals.length-once, specs.{Lives.generations, Series.IsRound, declared.series.{Round.Round, Series.Series}}}
+use Rattle.tp_work.{proofs.CountedTotals.length-once}
+use Rattle.tp_work.specs.{Lives.generations, Series.IsRound, declared.series.{Round.Round, Series.Series}}
 
 -- ---- texts that are appended in a loop
 

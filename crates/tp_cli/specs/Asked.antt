@@ -19,10 +19,10 @@ ArePoolsOf found specs config = (rows : List Row) × (found ≡ Some (codes "poo
     × (all_of (codes "SPEC") rows ≡ Some specs) × AreCountsIn rows config.nodes config.workers
 
 -- the subcommand that was found, with its matches, makes the request
-abbrev pub IsMadeBy : Option (Text × List Row) → Request → Type 0
-IsMadeBy found (Answer kind) = IsReading kind found
-IsMadeBy found (Run spec plan file) = IsRunOf found spec.now plan (option_map (λ f. f.now) file)
-IsMadeBy found (Pools specs config) = ArePoolsOf found (map (λ s. s.now) specs.items) config
+abbrev pub IsRequestOf : Option (Text × List Row) → Request → Type 0
+IsRequestOf found (Answer kind) = IsReading kind found
+IsRequestOf found (Run spec plan file) = IsRunOf found spec.now plan (option_map (λ f. f.now) file)
+IsRequestOf found (Pools specs config) = ArePoolsOf found (map (λ s. s.now) specs.items) config
 
 abbrev pub IsAskedBy : List Text → Request → Type 0
-IsAskedBy words request = IsMadeBy (asked words) request
+IsAskedBy words request = IsRequestOf (asked words) request

@@ -1,6 +1,7 @@
 -- The specifications of several pools: which of them are refused, and the text of their runs.
 use Rattle.pool_samples.specs.{Words.word_of, declared.any.AnyGraph.AnyGraph}
-use Rattle.std.specs.{List.{enumerate_from, flat_map, list_all, list_any, zip}, Prelude.{ℕ, ◌≡◌, ◌≤◌, ◌<◌, ◌⊎◌, ◌++◌, Bool, true, false, List}}
+use Rattle.std.specs.List.{enumerate_from, flat_map, list_all, list_any, zip}
+use Rattle.std.specs.Prelude.{ℕ, ◌≡◌, ◌≤◌, ◌<◌, ◌⊎◌, ◌++◌, Bool, true, false, List}
 use Rattle.std.specs.{Prelude.{Some, Result, Ok, Err, codes, decimal, length, map, slice_get, take}, Result.is_ok, Str.bytes_eq}
 use Rattle.tp_base.specs.{Refusals.{number_of, name_of}, declared.{limits.TheConstants.MAX_POOLS, refusal.Refusal.Refusal}}
 use Rattle.tp_base.specs.declared.refusal.Refusal.TheVariants.{BadSpec, NoMemory, PoolKnown, StoreFull}

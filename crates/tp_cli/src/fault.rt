@@ -4,7 +4,7 @@ ghost use Rattle.tp_cli.specs.Faults.{line_of, refusal_line, refusal_of, status_
 
 use itoa::Buffer;
 use tp_base::Refusal;
-use tp_shell::{Diagnostics, Status, Told, WordsFault, tell_words};
+use tp_shell::{Diagnostics, ProgramFault, Status, WordsFault, tell_words};
 use tp_text::TextFault;
 
 /// Why the program did not do what its arguments ask for.
@@ -49,7 +49,7 @@ impl RunFault {
     }
 }
 
-impl Told for Fault {
+impl ProgramFault for Fault {
     ghost line_of = { line_of };
 
     ghost status_of = { status_of };

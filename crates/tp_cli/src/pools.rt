@@ -1,6 +1,7 @@
 //! The subcommand `pools`: runs several pools at once.
 ghost use Rattle.pool_samples.specs.declared.any.AnyGraph.{AnyGraph};
-ghost use Rattle.std.specs.{Io.KnownBytes.Appends, List.list_all, Prelude.{◌≡◌, Bool, List, ℕ, IfErr, IfOk, MatchResult, false, length, map}};
+ghost use Rattle.std.specs.{Io.KnownBytes.Appends, List.list_all};
+ghost use Rattle.std.specs.Prelude.{◌≡◌, Bool, List, ℕ, IfErr, IfOk, MatchResult, false, length, map};
 ghost use Rattle.std.specs.{Result.is_ok, String.string_bytes};
 ghost use Rattle.tp_base.specs.{Refusals.{name_of, number_of}, declared.refusal.Refusal.TheVariants.NoMemory};
 ghost use Rattle.tp_cli.specs.Pools.{AreNamed, IsPoolsFault, IsPoolsText, IsWordsFault, pool_line, pool_lines, pools_of, status_of_pools};

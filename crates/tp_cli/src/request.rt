@@ -2,7 +2,7 @@
 ghost use Rattle.clap.specs.{Values.kind_of, Words.{all_of, first_value, found_of, rows_of, subcommand_rows_of}};
 ghost use Rattle.clap.specs.declared.error.kind.ErrorKind.TheVariants.{MissingSubcommand};
 ghost use Rattle.std.specs.Prelude.{◌≡◌, Some, None, IfErr, IfOk, MatchOption, codes, map};
-ghost use Rattle.tp_cli.specs.{Asked.{IsAskedBy, IsMadeBy}, Command.{IsFormOf, IsNeither, asked, tp_app}, Runs.IsPlan};
+ghost use Rattle.tp_cli.specs.{Asked.{IsAskedBy, IsRequestOf}, Command.{IsFormOf, IsNeither, asked, tp_app}, Runs.IsPlan};
 ghost use Rattle.tp_shell.specs.Command.{AreCountsIn, FailsAs, IsCount};
 
 use crate::command::{MAX_GENERATIONS, tp_command};
@@ -43,7 +43,7 @@ pub(crate) fn requested<'a>(alloc: Global, words: &'a [&'a str]) -> Result<Reque
 /// Returns the request that the matches make.
 fn asked<'a>(alloc: Global, matches: &ArgMatches<'a>) -> Result<Option<Request<'a>>, AllocError>
     ensures { IfOk result (λ request.
-        MatchOption request (IsNeither (subcommand_rows_of matches.now)) (IsMadeBy (subcommand_rows_of matches.now))) }
+        MatchOption request (IsNeither (subcommand_rows_of matches.now)) (IsRequestOf (subcommand_rows_of matches.now))) }
 {
     match matches.subcommand() {
         Some((name, arguments)) => asked_of(alloc, name, arguments),
@@ -58,7 +58,7 @@ fn asked_of<'a>(
     arguments: &ArgMatches<'a>,
 ) -> Result<Option<Request<'a>>, AllocError>
     ensures { IfOk result (λ request. MatchOption request
-        (IsNeither (Some (name.now, rows_of (found_of arguments.now)))) (IsMadeBy (Some (name.now, rows_of (found_of arguments.now))))) }
+        (IsNeither (Some (name.now, rows_of (found_of arguments.now)))) (IsRequestOf (Some (name.now, rows_of (found_of arguments.now))))) }
 {
     match name {
         "sim" => Ok(Some(Request::Answer(TextKind::Script))),
@@ -72,7 +72,7 @@ fn asked_of<'a>(
 /// Returns the run that the arguments of `run` ask for.
 fn run_asked<'a>(arguments: &ArgMatches<'a>) -> Option<Request<'a>>
     ensures { MatchOption result (first_value (found_of arguments.now) (codes "SPEC") ≡ None)
-        (IsMadeBy (Some (codes "run", rows_of (found_of arguments.now)))) }
+        (IsRequestOf (Some (codes "run", rows_of (found_of arguments.now)))) }
 {
     let spec = arguments.get_str("SPEC")?;
     let file = arguments.get_str("profile");
@@ -85,7 +85,7 @@ fn pools_asked<'a>(
     arguments: &ArgMatches<'a>,
 ) -> Result<Option<Request<'a>>, AllocError>
     ensures { IfOk result (λ request. MatchOption request (all_of (codes "SPEC") (rows_of (found_of arguments.now)) ≡ None)
-        (IsMadeBy (Some (codes "pools", rows_of (found_of arguments.now))))) }
+        (IsRequestOf (Some (codes "pools", rows_of (found_of arguments.now))))) }
 {
     let Some(words) = arguments.get_strs("SPEC") else {
         return Ok(None);

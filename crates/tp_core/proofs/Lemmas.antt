@@ -118,12 +118,12 @@ over_given : (b : Bool) (x : Sums) → over_of (if b then WaveSums x else Plain)
 over_given true x = refl
 over_given false x = refl
 
-pub told_judge : (n : ℕ) (past : List Step) (o : Option ℕ) → IsFalse (is_ended n past) → o ≡ judgement n past → IsTold n past Judge o
+pub told_judge : (n : ℕ) (past : List Step) (o : Option ℕ) → IsFalse (is_ended n past) → o ≡ judgement n past → ReportsEnd n past Judge o
 told_judge n past (Some w) e same = (refl, sym same)
 told_judge n past None e same = rw (sym same, e) refl
 
 pub told_reply : (n : ℕ) (past : List Step) (s : Step) → IsTrue (is_control s) → IsFalse (is_ended n (present past))
-    → IsTold n (present past) s (over_of (reply_to n past s))
+    → ReportsEnd n (present past) s (over_of (reply_to n past s))
 told_reply n past Start c e = e
 told_reply n past (Down i) c e = e
 told_reply n past (Give i) c e = rw (over_given (i.0 == 0) _) e
@@ -138,7 +138,7 @@ is_taken n past s (Ok reply) w h none = refl
 is_taken n past s (Err e) w h none = cc
 
 pub told_as : (n : ℕ) (past : List Step) (s : Step) (reply : Reply) {o : Option ℕ} → o ≡ over_of reply → reply ≡ reply_to n past s
-    → IsTold n (present past) s (over_of (reply_to n past s)) → IsTold n (present past) s o
+    → ReportsEnd n (present past) s (over_of (reply_to n past s)) → ReportsEnd n (present past) s o
 told_as n past s reply e f told = rw (e, f) told
 
 -- ==== If the pool is quiet, the next control step can be taken, and it keeps the loop invariant of settling.
@@ -165,7 +165,7 @@ due_passes {n} {numbers} {steps} s m control due =
 pub one_taken : {n : ℕ} {numbers : List NodeNumbers} (past : List Step) {new : List Step} {w next : Wave} {told : Option ℕ} (s : Step)
     → MaySettle n numbers past w
     → IsTrue (is_control s) → IsDue n (present past) s → new ≡ s ∷ past → Follows n (s ∷ present past) next
-    → IsTold n (present past) s told
+    → ReportsEnd n (present past) s told
     → IsTaken n past new next told
 one_taken {n} past s m control due pushed follows told = record {
   step = s;

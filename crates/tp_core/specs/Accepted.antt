@@ -123,9 +123,9 @@ abbrev pub next : Accepted → Step → Accepted
 next a s = if is_some (refusal a s) then a else with_step a s
 
 -- The result of a step for a core that had accepted the old steps, and what it has accepted afterwards.
-abbrev pub Answers : Accepted → Step → Result Reply Refusal → Accepted → Type 0
-Answers old s (Ok reply) new = (refusal old s ≡ None) × (reply ≡ reply_to old.nodes old.steps s) × (new ≡ with_step old s)
-Answers old s (Err r) new = IsRefusedFor (refusal old s) (asks_memory old s) r × (new ≡ old)
+abbrev pub AcceptsOrRefuses : Accepted → Step → Result Reply Refusal → Accepted → Type 0
+AcceptsOrRefuses old s (Ok reply) new = (refusal old s ≡ None) × (reply ≡ reply_to old.nodes old.steps s) × (new ≡ with_step old s)
+AcceptsOrRefuses old s (Err r) new = IsRefusedFor (refusal old s) (asks_memory old s) r × (new ≡ old)
 
 -- the results of several steps, in order, and what is accepted after them, unless memory runs out
 abbrev pub answers : Accepted → List Step → List (Result Reply Refusal)
@@ -150,11 +150,11 @@ AreInRoom recorded n [] = Unit {0}
 AreInRoom recorded n (s ∷ past) = HasRoom recorded (length past) (is_at_limit n past s) × AreInRoom recorded n past
 
 -- The results of several steps, in order, and what is accepted after them. Each may be refused for lack of memory.
-abbrev pub AnswersAll : Accepted → List Step → List (Result Reply Refusal) → Accepted → Type 0
-AnswersAll old [] [] new = new ≡ old
-AnswersAll old (s ∷ later) (r ∷ rs) new = (mid : Accepted) × Answers old s r mid × AnswersAll mid later rs new
-AnswersAll old [] (r ∷ rs) new = ⊥
-AnswersAll old (s ∷ later) [] new = ⊥
+abbrev pub AcceptOrRefuseAll : Accepted → List Step → List (Result Reply Refusal) → Accepted → Type 0
+AcceptOrRefuseAll old [] [] new = new ≡ old
+AcceptOrRefuseAll old (s ∷ later) (r ∷ rs) new = (mid : Accepted) × AcceptsOrRefuses old s r mid × AcceptOrRefuseAll mid later rs new
+AcceptOrRefuseAll old [] (r ∷ rs) new = ⊥
+AcceptOrRefuseAll old (s ∷ later) [] new = ⊥
 
 abbrev pub is_no_memory : Result Reply Refusal → Bool
 is_no_memory (Err NoMemory) = true
@@ -162,7 +162,7 @@ is_no_memory _ = false
 
 -- If no result is `NoMemory`, the results and the accepted steps are functions of the steps.
 abbrev pub RunsAreDetermined : Type 0
-RunsAreDetermined = (old new : Accepted) (steps : List Step) (rs : List (Result Reply Refusal)) → AnswersAll old steps rs new
+RunsAreDetermined = (old new : Accepted) (steps : List Step) (rs : List (Result Reply Refusal)) → AcceptOrRefuseAll old steps rs new
     → IsFalse (list_any is_no_memory rs) → (rs ≡ answers old steps) × (new ≡ after_all old steps)
 
 -- the counters of node i, if the steps are those of one generation

@@ -14,14 +14,14 @@ abbrev pub is_running_at : ℕ → ℕ → World → Bool
 is_running_at i t w = is_running (life_of t w) && (home_of t w == i)
 
 -- the node at which a step makes work, or begins or finishes a task: none for the other steps, or if there is no such task
-abbrev pub made_at : Step → World → Option ℕ
-made_at (Insert i t k) w = Some i.0
-made_at (ActionOpen i a) w = Some i.0
-made_at (Send i j m g) w = Some i.0
-made_at (Supply t) w = home_if_known t.0 w
-made_at (Begin t) w = home_if_known t.0 w
-made_at (Done t) w = home_if_known t.0 w
-made_at _ w = None
+abbrev pub node_of_work : Step → World → Option ℕ
+node_of_work (Insert i t k) w = Some i.0
+node_of_work (ActionOpen i a) w = Some i.0
+node_of_work (Send i j m g) w = Some i.0
+node_of_work (Supply t) w = home_if_known t.0 w
+node_of_work (Begin t) w = home_if_known t.0 w
+node_of_work (Done t) w = home_if_known t.0 w
+node_of_work _ w = None
 
 -- A thread makes no work: it only begins and finishes tasks.
 abbrev pub runs_tasks : Step → Bool
@@ -44,4 +44,4 @@ makes_if m s (Some i) w = makes_at m s i w
 
 -- The maker may make the step: at the node of the step.
 abbrev pub is_maker : Maker → Step → World → Bool
-is_maker m s w = makes_if m s (made_at s w) w
+is_maker m s w = makes_if m s (node_of_work s w) w

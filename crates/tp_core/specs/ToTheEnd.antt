@@ -18,9 +18,9 @@ FewIfDue n steps = IsDue n (present steps) Start → waves (present steps) ≤ M
 
 -- The report of a step: the wave with which it judged the pool to have terminated, or none if termination was not
 -- detected.
-abbrev pub IsTold : ℕ → List Step → Step → Option ℕ → Type 0
-IsTold n past s None = IsFalse (is_ended n (s ∷ past))
-IsTold n past s (Some w) = (s ≡ Judge) × (judgement n past ≡ Some w)
+abbrev pub ReportsEnd : ℕ → List Step → Step → Option ℕ → Type 0
+ReportsEnd n past s None = IsFalse (is_ended n (s ∷ past))
+ReportsEnd n past s (Some w) = (s ≡ Judge) × (judgement n past ≡ Some w)
 
 -- One control step was taken, the wave advanced by it, and it was reported whether the step detected termination.
 pub record IsTaken (n : ℕ) (past now : List Step) (wave : Wave) (told : Option ℕ) : Type 0 where
@@ -29,7 +29,7 @@ pub record IsTaken (n : ℕ) (past now : List Step) (wave : Wave) (told : Option
   pub lawful : IsLawful n (present past) step
   pub steps : now ≡ step ∷ past
   pub follows : Follows n (step ∷ present past) wave
-  pub is_told : IsTold n (present past) step told
+  pub is_told : ReportsEnd n (present past) step told
 
 -- `count` control steps were taken. The last one judged that the pool had terminated when wave w ended.
 pub record AreTaken (n : ℕ) (old new : List Step) (wave : Wave) (w count : ℕ) : Type 0 where

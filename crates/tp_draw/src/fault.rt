@@ -5,7 +5,9 @@ ghost use Rattle.tp_draw.specs.Faults.{line_of, status_of, text_line};
 ghost use Rattle.tp_shell.specs.Streams.{MayExplain};
 
 use std::alloc::AllocError;
-use tp_shell::{Diagnostics, Status, Told, WordsFault, explain_spec, names_a_file, tell_words};
+use tp_shell::{
+    Diagnostics, ProgramFault, Status, WordsFault, explain_spec, names_a_file, tell_words,
+};
 use tp_text::TextFault;
 
 /// Why nothing was drawn, or not all of it.
@@ -37,7 +39,7 @@ impl From<AllocError> for Fault {
     }
 }
 
-impl Told for Fault {
+impl ProgramFault for Fault {
     ghost line_of = { line_of };
 
     ghost status_of = { status_of };

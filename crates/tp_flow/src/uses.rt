@@ -1,8 +1,10 @@
 //! What a flow keeps of a handle: which task wrote it last, and which tasks read it since.
-ghost use Rattle.std.specs.Prelude.{◌≡◌, ◌≤◌, ◌<◌, ◌++◌, ◌||◌, ℕ, List, [], ◌∷◌, length, map, OnOk, IsTrue, Some, None, true, false, slice_get};
+ghost use Rattle.std.specs.Prelude.{◌≡◌, ◌≤◌, ◌<◌, ◌++◌, ◌||◌, ℕ, List, [], ◌∷◌, length};
+ghost use Rattle.std.specs.Prelude.{map, OnOk, IsTrue, Some, None, true, false, slice_get};
 ghost use Rattle.std.specs.Vec.{vec_capacity};
 ghost use Rattle.tp_flow.specs.Description.{Task, AreInputs, all_below, awaited, awaited_by, newest_of, AreOrdered, writes};
-ghost use Rattle.tp_flow.specs.State.{state_of_uses, has_room, is_not_above, with_access, is_number, is_recorded, can_record, AreKept, Pass};
+ghost use Rattle.tp_flow.specs.State.{state_of_uses, has_room, is_not_above, with_access};
+ghost use Rattle.tp_flow.specs.State.{is_number, is_recorded, can_record, AreKept, Pass};
 
 use crate::access::{Access, Mode};
 use std::alloc::{AllocError, Global};

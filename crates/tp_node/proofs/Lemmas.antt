@@ -44,12 +44,12 @@ module _ {G K : Type 0} (node : NodeState G) {old new : BoardState} {r : Result 
       when_some (turn_of node old) (λ s. OnOk r (Appends (control_event s ∷ []) old new))
       (λ s is. on_ok_weaker r (one_event (control_event s) old new) (turn.some s (is_first ∙ is)).event)
 
-  pub answered : IfSome (turn_of node old) (λ s. IfOk r (IsMade (ends node.nodes old.history s)))
-  answered = when_some (turn_of node old) (λ s. IfOk r (IsMade (ends node.nodes old.history s))) (λ s is.
+  pub answered : IfSome (turn_of node old) (λ s. IfOk r (MovesOrEnds (ends node.nodes old.history s)))
+  answered = when_some (turn_of node old) (λ s. IfOk r (MovesOrEnds (ends node.nodes old.history s))) (λ s is.
       (turn.some s (is_first ∙ is)).answer)
 
-  pub refused : IfSome (turn_of node old) (λ s. AnswersBy (full_check 1 old ∷ []) 1 old r)
-  refused = when_some (turn_of node old) (λ s. AnswersBy (full_check 1 old ∷ []) 1 old r) (λ s is. (turn.some s (is_first ∙ is)).refusal)
+  pub refused : IfSome (turn_of node old) (λ s. IsCheckedFor (full_check 1 old ∷ []) 1 old r)
+  refused = when_some (turn_of node old) (λ s. IsCheckedFor (full_check 1 old ∷ []) 1 old r) (λ s is. (turn.some s (is_first ∙ is)).refusal)
 
   unchanged_by : (o : Option Step) → turn_of node old ≡ o → OnErr r (new ≡ old)
   unchanged_by None is = subst (λ (q : Result (Turn K) Refusal). OnErr q (new ≡ old)) (sym (turn.none (is_first ∙ is)).0) tt
@@ -262,9 +262,9 @@ begins_reserved (Some work) old new before mid later more is begins = record {
 
 -- A call that continues after room for this many events was reserved has the result of the reservation.
 pub room_answers : {A B : Type 0} (more k : ℕ) (b : BoardState) (x : A) (y : B) → more ≡ k
-    → AnswersBy {A = A} (full_check more b ∷ []) more b (Ok x)
-    → AnswersBy {A = B} (full_check k b ∷ []) k b (Ok y)
+    → IsCheckedFor {A = A} (full_check more b ∷ []) more b (Ok x)
+    → IsCheckedFor {A = B} (full_check k b ∷ []) k b (Ok y)
 room_answers {A} {B} more k b x y same answers =
     let r : Result A Refusal = Ok x in
     let q : Result B Refusal = Ok y in
-    subst (λ n. AnswersBy {A = B} (full_check n b ∷ []) n b q) same (same_answer (full_check more b ∷ []) more b r q refl answers)
+    subst (λ n. IsCheckedFor {A = B} (full_check n b ∷ []) n b q) same (same_answer (full_check more b ∷ []) more b r q refl answers)

@@ -9,8 +9,8 @@ use Rattle.tp_base.specs.declared.step.Step.TheVariants as steps
 
 -- A call that makes these checks returns the first refusal that applies, with both values that were moved in. If none does, it
 -- succeeds, or an allocation fails.
-abbrev pub AnswersWithBoth : {A B C : Type 0} → List Check → B → C → Result A (Refusal × B × C) → Type 0
-AnswersWithBoth checks b c result =
+abbrev pub IsCheckedWithBoth : {A B C : Type 0} → List Check → B → C → Result A (Refusal × B × C) → Type 0
+IsCheckedWithBoth checks b c result =
     MatchOption (first_refusal checks) (IfErr result (λ e. e ≡ (NoMemory, b, c))) (λ e. result ≡ Err (e, b, c))
 
 -- a node before and after a call, and the board

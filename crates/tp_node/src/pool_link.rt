@@ -1,7 +1,7 @@
 //! A link of a pool: a queue of messages together with its share of the messages in flight.
 ghost use Rattle.std.specs.Prelude.{◌≡◌, ◌+◌, ◌<◌, ◌≤◌, ◌↔◌, [], ◌∷◌, ◌++◌, drop, length, option_copied, slice_get, IfErr, IfOk, IsOk};
 ghost use Rattle.{std.specs.Prelude.{OnErr, OnOk, Some, IsTrue}, tp_graph.specs.{Carried.{Carried, IsFeed}, Values.value_of}};
-ghost use Rattle.tp_board.specs.{Calls.{AnswersFirst, Appends}, Numbers.{event, is_send, numbers_after, receiving, sending}};
+ghost use Rattle.tp_board.specs.{Calls.{IsChecked, Appends}, Numbers.{event, is_send, numbers_after, receiving, sending}};
 ghost use Rattle.tp_board.specs.States.{full_check};
 ghost use Rattle.tp_node.specs.PoolLinks.{IsOnWay, empty_pool_link, generation_of, link_of, message_on, with_message};
 ghost use Rattle.tp_wave.specs.{Generations.present, Machine.{is_send_to, steps_of, under_way}, Steps.{any, count}};
@@ -127,7 +127,7 @@ impl<G: Graph, K: Ledgers> PoolLink<G, K> {
             ≡ numbers_after (sending (generation_of board.old) shares.old.node self.old.to m.0) shares.old) }
         ensures last { IfOk result (λ m. self.new
             ≡ with_message (message_on self.old graph (generation_of board.old) m.0 feed value) self.old) }
-        ensures refusal { AnswersFirst (full_check 1 board.old ∷ []) result }
+        ensures refusal { IsChecked (full_check 1 board.old ∷ []) result }
         ensures refused { OnErr result (Appends [] board.old board.new × (shares.new ≡ shares.old) × (self.new ≡ self.old)) }
     {
         board.reserve(1)?;

@@ -1,8 +1,8 @@
 //! Reopening a pool, which begins its next generation.
 ghost use Rattle.std.specs.{List.{All, flat_map}, Prelude.{◌≡◌, ◌≤◌, ◌<◌, ◌+◌, ◌^◌, [], ◌∷◌, ◌++◌, IfErr, IfOk, IsTrue, MatchOption}};
 ghost use Rattle.std.specs.{Prelude.{OnErr, OnOk, length, map, sum_by, vec_capacity, vec_len}, Result.result_err};
-ghost use Rattle.{tp_base.specs.Checks.first_refusal, tp_node.specs.{Calls.AnswersWithBoth, Nodes.{IsOfPool, anew}}};
-ghost use Rattle.tp_board.specs.{Calls.{AnswersFirst, Appends}, Fresh.HasRoom, Numbers.event, States.{full_check, with_event}};
+ghost use Rattle.{tp_base.specs.Checks.first_refusal, tp_node.specs.{Calls.IsCheckedWithBoth, Nodes.{IsOfPool, anew}}};
+ghost use Rattle.tp_board.specs.{Calls.{IsChecked, Appends}, Fresh.HasRoom, Numbers.event, States.{full_check, with_event}};
 ghost use Rattle.tp_graph.specs.Left.{AreResults};
 ghost use Rattle.tp_wave.specs.{Cut.IsQuietHistory, Generations.{present, present_events}, Machine.steps_of, Sums.is_ended};
 ghost use Rattle.tp_base.specs.declared.step.Step.TheVariants as steps;
@@ -46,7 +46,7 @@ impl<G: Graph, K: Ledgers> Pool<G, K> {
         ensures right { IfOk result (λ r. (g : G) → All (λ n. n.graph ≡ g) self.nodes.items → AreResults (G.meaning g) r.results.items) }
         ensures ended { OnOk result (IsTrue (is_ended K.names.nodes (present (steps_of self.board.history)))) }
         ensures quiet { OnOk result (IsQuietHistory K.names.nodes (present_events self.board.history)) }
-        ensures refused { AnswersWithBoth (full_check 1 self.board ∷ []) self ended result }
+        ensures refused { IsCheckedWithBoth (full_check 1 self.board ∷ []) self ended result }
     {
         let mut pool = self;
         match room_for(alloc, &pool.nodes, &mut pool.board) {
@@ -80,7 +80,7 @@ fn room_for<G: Graph, K: Ledgers>(
         × (sum_by (λ n. length n.state.store.results) nodes.now.items ≤ vec_capacity r.results)) }
     ensures reserved { OnOk result (0 < board.new.reserved) }
     ensures same { Appends [] board.old board.new }
-    ensures refusal { AnswersFirst (full_check 1 board.old ∷ []) result }
+    ensures refusal { IsChecked (full_check 1 board.old ∷ []) result }
     ensures refused { OnErr result (board.new ≡ board.old) }
 {
     check_full(board)?;

@@ -4,8 +4,10 @@ use Rattle.std.specs.Prelude.{ℕ, ◌+◌, ◌-◌, ◌*◌, ◌^◌, ◌==◌,
 use Rattle.std.specs.Prelude.{IsTrue, nat_lt, if◌then◌else◌}
 use Rattle.tp_base.specs.Totals.{total}
 use Rattle.tp_process.specs.{Calls.moved, declared.outcome.Next.TheVariants.Ended}
-use Rattle.tp_process.specs.Tasks.{Tasks, added, added_due, began, can_begin, can_make, can_receive_task, can_send_task, can_settle, completed}
-use Rattle.tp_process.specs.Tasks.{dropped, given, is_idle, new_tasks, read_tasks, receives_task, sends_task, settled, task_received, task_sent}
+use Rattle.tp_process.specs.Tasks.{Tasks, added, added_due, began, can_begin, can_make}
+use Rattle.tp_process.specs.Tasks.{can_receive_task, can_send_task, can_settle, completed}
+use Rattle.tp_process.specs.Tasks.{dropped, given, is_idle, new_tasks, read_tasks, receives_task}
+use Rattle.tp_process.specs.Tasks.{sends_task, settled, task_received, task_sent}
 use Rattle.tp_process.specs.{Tasks.without_opening, World.{World, Moves, beginning, came, control_at, does, is_step, is_taken, put}}
 
 pub record Pool : Type 0 where

@@ -3,7 +3,8 @@
 ghost use Rattle.std.specs.Prelude.{◌≡◌, ◌≢◌};
 ghost use Rattle.tp_process.specs.Epochs.{AheadLaw, CallsLaw, ControlMessagesEpochLaw, EpochLaw, FewWavesEpochLaw, GoesOnEpochLaw, LagsLaw};
 ghost use Rattle.tp_process.specs.Epochs.{LeftEpochLaw, MessageLaw, NearLaw, NeverEarlyEpochLaw, NoneLateLaw, OnceEpochLaw, SoonEpochLaw};
-ghost use Rattle.tp_process.specs.{Network.{AllEndLaw, FewCarriedLaw, HandedLaw, NeverLateLaw}, Opening.{CountedLaw, OpenCallsLaw, OpenLaw}};
+ghost use Rattle.tp_process.specs.Network.{AllEndLaw, FewCarriedLaw, HandedLaw, NeverLateLaw};
+ghost use Rattle.tp_process.specs.Opening.{CountedLaw, OpenCallsLaw, OpenLaw};
 ghost use Rattle.tp_process.specs.World.{ControlMessagesLaw, EndedLaw, FewWavesLaw, GoesOnLaw, NeverEarlyLaw, OnceLaw, QuietLaw, SoonLaw};
 
 use crate::epoch_state::LIMIT;

@@ -4,7 +4,8 @@
 ghost use Rattle.std.specs.{Prelude.{◌≡◌, OnErr}, Result.result_err};
 ghost use Rattle.tp_process.specs.{Epochs.{reopen_refusal, reopened}, Opening.{checked, if_open}, State.read};
 ghost use Rattle.tp_process.specs.Tasks.{added, added_due, began, begin_refusal, completed, done_refusal, dropped, give_refusal, given};
-ghost use Rattle.tp_process.specs.Tasks.{is_idle, make_refusal, new_tasks, opening_refusal, process_after_receive, process_after_send, process_after_settle};
+ghost use Rattle.tp_process.specs.Tasks.{is_idle, make_refusal, new_tasks, opening_refusal};
+ghost use Rattle.tp_process.specs.Tasks.{process_after_receive, process_after_send, process_after_settle};
 ghost use Rattle.tp_process.specs.Tasks.{read_tasks, receive_task_refusal, send_task_refusal, settle_result, tasks_after_receive};
 ghost use Rattle.tp_process.specs.Tasks.{tasks_after_reopen, tasks_after_send, without_opening};
 

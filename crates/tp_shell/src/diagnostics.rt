@@ -18,7 +18,7 @@ pub trait Diagnostics {
 
     /// Prints a text, which is given by its parts in order, and returns whether all of it was printed.
     fn try_tell(&mut self, parts: &[&str]) -> bool
-        ensures told { tells self.old (concat (map (λ part. part.now) parts.now)) self.new }
+        ensures written { tells self.old (concat (map (λ part. part.now) parts.now)) self.new }
         ensures whole { IsTrue result → prints self.old (concat (map (λ part. part.now) parts.now)) self.new };
 
     /// Prints a text, which is given by its parts in order. Whether all of it was printed is not returned.
@@ -80,7 +80,7 @@ fn try_to_write_part<W: Write>(writer: &mut W, text: &[u8]) -> io::Result<()>
 }
 
 /// A fault of a program: its error line, and its exit status.
-pub trait Told {
+pub trait ProgramFault {
     ghost use Rattle.tp_shell.specs.declared.status.Status.{Status};
 
     // the error line
@@ -99,9 +99,9 @@ pub trait Told {
 }
 
 /// Prints the error line of a fault, and returns its exit status.
-pub fn complain<F: Told, E: Diagnostics>(fault: &F, err: &mut E) -> Status
+pub fn complain<F: ProgramFault, E: Diagnostics>(fault: &F, err: &mut E) -> Status
     ensures status { result ≡ F.status_of fault.now }
-    ensures told { E.tells err.old (F.line_of fault.now) err.new }
+    ensures written { E.tells err.old (F.line_of fault.now) err.new }
 {
     fault.tell(err);
     fault.status()

@@ -15,7 +15,7 @@ mod status;
 mod streams;
 mod words;
 
-pub use diagnostics::{Diagnostics, Told, complain};
+pub use diagnostics::{Diagnostics, ProgramFault, complain};
 pub use environment::{HasArguments, arguments, asks_version, is_quiet, without_words, words_of};
 pub use numbers::{A_NUMBER, cut, number_of, short_number_of};
 pub use options::{VERSION, config_of, count_of, count_option, with_counts};

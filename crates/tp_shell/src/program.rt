@@ -29,7 +29,7 @@ pub enum Ending {
     /// Help or the version is printed, and the program is done.
     Shown(String),
     /// These lines are printed on standard error, and the program ends with this status.
-    Told(Status, String),
+    ErrorLine(Status, String),
     /// Standard input could not be read.
     Unread(io::Error),
     /// An allocation failed.
@@ -70,7 +70,7 @@ pub fn begin<R: Env + AllocGlobal>(
         Err(io::ErrorKind::OutOfMemory) => return Err(Ending::Memory),
         Err(_) => {
             let line = String::from_str(alloc, "the arguments are not UTF-8\n")?;
-            return Err(Ending::Told(Status::Fault, line));
+            return Err(Ending::ErrorLine(Status::Fault, line));
         }
     };
     let words = words_of(alloc, &arguments)?;
@@ -106,7 +106,7 @@ fn ending_of(alloc: Global, error: &Error, name: &str, explained: bool) -> Endin
     match error.kind() {
         ErrorKind::OutOfMemory => Ending::Memory,
         ErrorKind::DisplayHelp | ErrorKind::DisplayVersion => Ending::Shown(text),
-        _ => Ending::Told(Status::Fault, text),
+        _ => Ending::ErrorLine(Status::Fault, text),
     }
 }
 
@@ -115,23 +115,23 @@ fn ending_of(alloc: Global, error: &Error, name: &str, explained: bool) -> Endin
 pub fn end<R: Env + AllocGlobal, O: Write + Drop, E: Write + Drop>(
     rt: &R,
     name: &str,
-    made: &Result<String, Ending>,
+    outcome: &Result<String, Ending>,
     mut out: O,
     err: E,
 ) -> u8
-    ensures { MatchResult made.now (λ _. result ≤ 1) (λ ending. EndsBy ending result) }
+    ensures { MatchResult outcome.now (λ _. result ≤ 1) (λ ending. EndsBy ending result) }
 {
     let failure = Cell::new(None);
     let mut err = Messages {
         writer: err,
         failure: &failure,
     };
-    let ((stream, line), error) = match made {
+    let ((stream, line), error) = match outcome {
         Ok(text) | Err(Ending::Shown(text)) => match write_text(&mut out, text.as_bytes()) {
             Ok(()) => return 0,
             Err(error) => (UNWRITTEN, error),
         },
-        Err(Ending::Told(status, lines)) => {
+        Err(Ending::ErrorLine(status, lines)) => {
             err.tell(lines);
             return status.code();
         }

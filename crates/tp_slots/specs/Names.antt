@@ -26,5 +26,5 @@ pub record Tells (c : Content ℕ) (names : List Standing) (numbers : ℕ → Op
   pub four : length s.ready ≡ 4
   pub count : held_count c ≡ count_by is_some s.items
 
-abbrev pub Told : Content ℕ → Names → State → Type 0
-Told c names s = Tells c names.standings.items (get nat_cmp names.numbers) s
+abbrev pub Represents : Content ℕ → Names → State → Type 0
+Represents c names s = Tells c names.standings.items (get nat_cmp names.numbers) s

@@ -54,10 +54,10 @@ struct Names {
 
 impl Names {
     ghost use Rattle.std.specs.{BTreeMap.get, Ordering.nat_cmp, Prelude.{[], Some, None}};
-    ghost use Rattle.tp_slots.specs.{Content.nothing_held, Names.{name_at, Told}};
+    ghost use Rattle.tp_slots.specs.{Content.nothing_held, Names.{name_at, Represents}};
 
     fn new(alloc: Global) -> Self
-        ensures { Told nothing_held result start }
+        ensures { Represents nothing_held result start }
     {
         Names {
             standings: Vec::new(alloc),
@@ -75,9 +75,9 @@ impl Names {
     }
 
     fn step<S: Slots<u64>>(&mut self, slots: &mut S, command: Command) -> Result<Reply, Refusal>
-        requires { (s : State) × Told (S.content slots.old) self.old s }
-        ensures reply { (s : State) → Told (S.content slots.old) self.old s
-            → IfOk result (λ r. (r ≡ reply_of command s) × Told (S.content slots.new) self.new (after command s)) }
+        requires { (s : State) × Represents (S.content slots.old) self.old s }
+        ensures reply { (s : State) → Represents (S.content slots.old) self.old s
+            → IfOk result (λ r. (r ≡ reply_of command s) × Represents (S.content slots.new) self.new (after command s)) }
         ensures memory { IfErr result (λ e. e ≡ Refusal.NoMemory) }
     {
         match command {
@@ -90,10 +90,10 @@ impl Names {
     }
 
     fn take<S: Slots<u64>>(&mut self, slots: &mut S, value: u64) -> Result<Reply, Refusal>
-        requires { (s : State) × Told (S.content slots.old) self.old s }
-        ensures reply { (s : State) → Told (S.content slots.old) self.old s
+        requires { (s : State) × Represents (S.content slots.old) self.old s }
+        ensures reply { (s : State) → Represents (S.content slots.old) self.old s
             → IfOk result (λ r. (r ≡ reply_of (Command.Take value) s)
-            × Told (S.content slots.new) self.new (after (Command.Take value) s)) }
+            × Represents (S.content slots.new) self.new (after (Command.Take value) s)) }
         ensures memory { IfErr result (λ e. e ≡ Refusal.NoMemory) }
     {
         let number = self.standings.len();
@@ -113,9 +113,9 @@ impl Names {
     }
 
     fn push_ready<S: Slots<u64>>(&mut self, slots: &mut S, k: usize, class: u8) -> Reply
-        requires { (s : State) × Told (S.content slots.old) self.old s }
-        ensures { (s : State) → Told (S.content slots.old) self.old s → (result ≡ reply_of (Command.PushReady k class) s)
-            × Told (S.content slots.new) self.new (after (Command.PushReady k class) s) }
+        requires { (s : State) × Represents (S.content slots.old) self.old s }
+        ensures { (s : State) → Represents (S.content slots.old) self.old s → (result ≡ reply_of (Command.PushReady k class) s)
+            × Represents (S.content slots.new) self.new (after (Command.PushReady k class) s) }
     {
         match self.find(k) {
             Standing::Gone => Reply::Refused(Refusal::NoTask),
@@ -132,9 +132,9 @@ impl Names {
     }
 
     fn pop_ready<S: Slots<u64>>(&mut self, slots: &mut S) -> Reply
-        requires { (s : State) × Told (S.content slots.old) self.old s }
-        ensures { (s : State) → Told (S.content slots.old) self.old s → (result ≡ reply_of Command.PopReady s)
-            × Told (S.content slots.new) self.new (after Command.PopReady s) }
+        requires { (s : State) × Represents (S.content slots.old) self.old s }
+        ensures { (s : State) → Represents (S.content slots.old) self.old s → (result ≡ reply_of Command.PopReady s)
+            × Represents (S.content slots.new) self.new (after Command.PopReady s) }
     {
         let Some(place) = slots.pop_ready() else {
             return Reply::Next(None);
@@ -148,8 +148,8 @@ impl Names {
     }
 
     fn get<S: Slots<u64>>(&self, slots: &S, k: usize) -> Reply
-        requires { (s : State) × Told (S.content slots.now) self.now s }
-        ensures { (s : State) → Told (S.content slots.now) self.now s → result ≡ reply_of (Command.Get k) s }
+        requires { (s : State) × Represents (S.content slots.now) self.now s }
+        ensures { (s : State) → Represents (S.content slots.now) self.now s → result ≡ reply_of (Command.Get k) s }
     {
         match self.find(k) {
             Standing::Gone => Reply::Refused(Refusal::NoTask),
@@ -158,9 +158,9 @@ impl Names {
     }
 
     fn give_back<S: Slots<u64>>(&mut self, slots: &mut S, k: usize) -> Reply
-        requires { (s : State) × Told (S.content slots.old) self.old s }
-        ensures { (s : State) → Told (S.content slots.old) self.old s → (result ≡ reply_of (Command.GiveBack k) s)
-            × Told (S.content slots.new) self.new (after (Command.GiveBack k) s) }
+        requires { (s : State) × Represents (S.content slots.old) self.old s }
+        ensures { (s : State) → Represents (S.content slots.old) self.old s → (result ≡ reply_of (Command.GiveBack k) s)
+            × Represents (S.content slots.new) self.new (after (Command.GiveBack k) s) }
     {
         match self.find(k) {
             Standing::Gone => Reply::Refused(Refusal::NoTask),

@@ -42,6 +42,6 @@ IsRecounted bytes (recounts.Whole v n auditor) =
     (lines : List TraceLine) × IsTrace bytes v n lines × Knows n lines auditor
 
 -- The line claims nothing, or claims this reply to its step.
-abbrev pub IsTold : TraceLine → Reply → Type 0
-IsTold (Plain s) reply = Unit {0}
-IsTold (Judged o) reply = reply ≡ judged o
+abbrev pub Claims : TraceLine → Reply → Type 0
+Claims (Plain s) reply = Unit {0}
+Claims (Judged o) reply = reply ≡ judged o

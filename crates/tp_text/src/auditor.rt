@@ -36,7 +36,7 @@ pub(crate) struct Auditor {
 }
 
 impl Auditor {
-    ghost use Rattle.tp_text.specs.Auditing.{IsTold, Knows};
+    ghost use Rattle.tp_text.specs.Auditing.{Claims, Knows};
 
     /// Returns an auditor of `nodes` nodes, 1 to 8, which has taken no line. It allocates nothing.
     pub(crate) fn new(alloc: Global, nodes: u32) -> Auditor
@@ -67,15 +67,15 @@ impl Auditor {
         }
         match answer {
             Err(refusal) => self.flaw = Some((number, Flaw::Refused(refusal))),
-            Ok(reply) if Auditor::is_told(line, reply) => self.account = self.account.with(line),
+            Ok(reply) if Auditor::claims(line, reply) => self.account = self.account.with(line),
             Ok(_) => self.flaw = Some((number, Flaw::Unjustified)),
         }
         Ok(())
     }
 
     /// Returns whether a line claims nothing, or exactly what the core replied to its step.
-    fn is_told(line: TraceLine, reply: Reply) -> bool
-        ensures { IsTrue result ↔ IsTold line reply }
+    fn claims(line: TraceLine, reply: Reply) -> bool
+        ensures { IsTrue result ↔ Claims line reply }
     {
         match line {
             TraceLine::Plain(_) => true,

@@ -103,7 +103,7 @@ pub fn audit<R: Read, W: Write>(
     // In each generation but the last, the end was judged, nothing was left, and each task had run once.
     ensures reopened { IfOk result (λ _. ReopenedIsOver) }
     // If the reply could not be written, the reader was read to its end, and the reply to the bytes was computed.
-    ensures made { IsErrOf result TextFault.Write → (verdict : Verdict) × (bytes : List ℕ) × (text : List ℕ)
+    ensures computed { IsErrOf result TextFault.Write → (verdict : Verdict) × (bytes : List ℕ) × (text : List ℕ)
         × ReadsAll (R.remaining reader.old) (R.remaining reader.new) bytes × IsAuditText bytes verdict text }
     // One byte more than the limit was read.
     ensures too_long { IsErrOf result TextFault.TooLong → (bytes : List ℕ)

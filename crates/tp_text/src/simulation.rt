@@ -69,7 +69,7 @@ pub fn sim<R: Read, W: Write>(
     // If a line of the reply is `ended W`, nothing was left from the end of wave W on, until the pool was reopened.
     ensures never_early { IfOk result (λ _. EndedIsNeverEarly) }
     // If the reply could not be written, the reader was read to its end, and the reply to the bytes was computed.
-    ensures made { IsErrOf result TextFault.Write → (verdict : Verdict) × (bytes : List ℕ) × (text : List ℕ)
+    ensures computed { IsErrOf result TextFault.Write → (verdict : Verdict) × (bytes : List ℕ) × (text : List ℕ)
         × ReadsAll (R.remaining reader.old) (R.remaining reader.new) bytes × IsSimText bytes verdict text }
     // One byte more than the limit was read.
     ensures too_long { IsErrOf result TextFault.TooLong → (bytes : List ℕ)

@@ -105,13 +105,13 @@ module _ {G : Type 0} where
       (board : BoardState) (Why : Refusal → Type 0) → MatchOption report (own ≡ NoMemory) (λ r. Why own × IsReportOf n g nodes board r)
       → length (generations board.history) ≤ count
       → ((r : Report) → IsReportOf n g nodes board r → Why own
-      → MatchOption board.fault (IsSeriesLack n g.tasks count r own) (λ e. IsAnswer (length board.history) e own))
+      → MatchOption board.fault (IsSeriesLack n g.tasks count r own) (λ e. IsRefusalForFault (length board.history) e own))
       → MatchOption report (IsUngathered own) (λ r. IsReport n g r × (length (generations r.history.events) ≤ count)
-      × MatchOption r.fault (IsSeriesLack n g.tasks count r own) (λ e. IsAnswer (length r.history.events) e own))
+      × MatchOption r.fault (IsSeriesLack n g.tasks count r own) (λ e. IsRefusalForFault (length r.history.events) e own))
   series_fault-with n g count None own nodes board Why told few lacks = inl told
   series_fault-with n g count (Some r) own nodes board Why told few lacks =
       let Answers : Option Refusal → History → Type 0 =
-      λ o h. MatchOption o (IsSeriesLack n g.tasks count r own) (λ e. IsAnswer (length h) e own) in (
+      λ o h. MatchOption o (IsSeriesLack n g.tasks count r own) (λ e. IsRefusalForFault (length h) e own) in (
         told.1.report,
         subst (λ (h : History). length (generations h) ≤ count) (sym told.1.history) few,
         subst (λ (o : Option Refusal). Answers o r.history.events) (sym told.1.fault)
@@ -122,7 +122,7 @@ module _ {G : Type 0} where
   pub series_fault : (n : ℕ) (g : TaskGraph) (count : ℕ) (f : Fault) (nodes : List (NodeState G)) (board : BoardState)
       (Why : Refusal → Type 0) → IsFaultOf n g nodes board Why f → length (generations board.history) ≤ count
       → ((r : Report) → IsReportOf n g nodes board r → Why f.refusal
-      → MatchOption board.fault (IsSeriesLack n g.tasks count r f.refusal) (λ e. IsAnswer (length board.history) e f.refusal))
+      → MatchOption board.fault (IsSeriesLack n g.tasks count r f.refusal) (λ e. IsRefusalForFault (length board.history) e f.refusal))
       → IsSeriesFault n g count f
   series_fault n g count f nodes board Why told few lacks =
       series_fault-with n g count f.report f.refusal nodes board Why told few lacks
@@ -170,7 +170,7 @@ at_some fault P A e is a = subst (λ (o : Option Refusal). MatchOption o P A) (s
 
 -- A reopening is refused if there is no place.
 pub full_refused : {A P T : Type 0} (b : BoardState) (self : P) (ended : T) (result : Result A (Refusal × P × T))
-    → AnswersWithBoth (full_check 1 b ∷ []) self ended result → b.limit < length b.history + 1
+    → IsCheckedWithBoth (full_check 1 b ∷ []) self ended result → b.limit < length b.history + 1
     → result ≡ Err (HistoryFull (length b.history), self, ended)
 full_refused b self ended result answers full =
     let yes : nat_lt b.limit (length b.history + 1) ≡ true = grind (arith, nat_tests, full) in rw yes at answers
@@ -186,7 +186,7 @@ full_refusal {A} {P} {T} refusal pool token self ended b result is refused full 
 -- The refusal of a reopening: the pool came back, and there was no place, or there was and no memory.
 pub refused_by : {A P T : Type 0} (b : BoardState) (self pool : P) (ended token : T) (refusal : Refusal)
     (result : Result A (Refusal × P × T)) → result ≡ Err (refusal, pool, token)
-    → AnswersWithBoth (full_check 1 b ∷ []) self ended result
+    → IsCheckedWithBoth (full_check 1 b ∷ []) self ended result
     → (pool ≡ self) × (((refusal ≡ HistoryFull (length b.history)) × (b.limit < length b.history + 1))
     ⊎ ((refusal ≡ NoMemory) × (length b.history + 1 ≤ b.limit)))
 refused_by {A} {P} {T} b self pool ended token refusal result is answers =
@@ -269,9 +269,9 @@ module _ {G : Type 0} where
       ∙ total-range now n
 
   -- termination is announced to at most all nodes
-  announced_to : (n : ℕ) (nodes : List (NodeState G)) (announced : ℕ) → announced ≡ told_of_end nodes → length nodes ≡ n → announced ≤ n
+  announced_to : (n : ℕ) (nodes : List (NodeState G)) (announced : ℕ) → announced ≡ nodes_announced nodes → length nodes ≡ n → announced ≤ n
   announced_to n nodes announced told each =
-      let few : told_of_end nodes ≤ length nodes = count_by-le-length (λ (s : NodeState G). s.state.ended) nodes in
+      let few : nodes_announced nodes ≤ length nodes = count_by-le-length (λ (s : NodeState G). s.state.ended) nodes in
       omega (arith, few, told, each)
 
   pub is_report : (n : ℕ) (meaning : G
@@ -329,7 +329,7 @@ lack_by_check Holds (Err e) lack told is = rw is (inr refl)
 -- The report of a pool that stops gives its fault.
 pub is_fault_by : (n : ℕ) (g : TaskGraph) (rounds : ℕ) (Why : Report → Refusal → Type 0) (f : Fault) (r : Report) → IsReport n g r
     → length (generations r.history.events) ≤ rounds → f.report ≡ Some r
-    → MatchOption r.fault (Why r f.refusal) (λ e. IsAnswer (length r.history.events) e f.refusal) → IsFaultBy n g rounds Why f
+    → MatchOption r.fault (Why r f.refusal) (λ e. IsRefusalForFault (length r.history.events) e f.refusal) → IsFaultBy n g rounds Why f
 is_fault_by n g rounds Why f r report few is why = rw is (report, few, why)
 
 -- what follows from why, if no fault was set
@@ -357,15 +357,16 @@ module _ {G : Type 0} where
   -- The fault with this report, and the refusal for what was set, is that of these nodes and this board.
   pub of_report : (n : ℕ) (g : TaskGraph) (f : Fault) (r : Report) (nodes : List (NodeState G)) (board : BoardState) (P : Type 0)
       → IsReportOf n g nodes board r → f.report ≡ Some r
-      → MatchOption r.fault P (λ e. IsAnswer (length r.history.events) e f.refusal)
-      → IsFaultOf n g nodes board (λ e. IfSome board.fault (λ fault. IsAnswer (length board.history) fault e)) f
+      → MatchOption r.fault P (λ e. IsRefusalForFault (length r.history.events) e f.refusal)
+      → IsFaultOf n g nodes board (λ e. IfSome board.fault (λ fault. IsRefusalForFault (length board.history) fault e)) f
   of_report n g f r nodes board P report is why =
-      let Own : History → Option Refusal → Type 0 = λ h o. IfSome o (λ e. IsAnswer (length h) e f.refusal) in
+      let Own : History → Option Refusal → Type 0 = λ h o. IfSome o (λ e. IsRefusalForFault (length h) e f.refusal) in
       subst (λ (o : Option Report). MatchOption o (f.refusal ≡ NoMemory)
-      (λ s. IfSome board.fault (λ fault. IsAnswer (length board.history) fault f.refusal) × IsReportOf n g nodes board s))
+      (λ s. IfSome board.fault (λ fault. IsRefusalForFault (length board.history) fault f.refusal) × IsReportOf n g nodes board s))
       (sym is) (
         subst (λ (h : History). Own h board.fault) report.history
-            (subst (Own r.history.events) report.fault (if_some r.fault P (λ e. IsAnswer (length r.history.events) e f.refusal) why)),
+            (subst (Own r.history.events) report.fault
+            (if_some r.fault P (λ e. IsRefusalForFault (length r.history.events) e f.refusal) why)),
         report,
       )
 
@@ -452,16 +453,16 @@ by_report : (n : ℕ) (g : TaskGraph) (e : Refusal) (o : Option Report)
     → MatchOption o (IsUngathered e)
     (λ r. IsReport n g r
     × (length (generations r.history.events) ≤ 1)
-    × MatchOption r.fault (IsSeriesLack n g.tasks 1 r e) (λ fault. IsAnswer (length r.history.events) fault e))
+    × MatchOption r.fault (IsSeriesLack n g.tasks 1 r e) (λ fault. IsRefusalForFault (length r.history.events) fault e))
     → MatchOption o (IsUngathered e)
     (λ r. IsReport n g r
     × (length (generations r.history.events) ≤ 1)
-    × MatchOption r.fault (IsLack n g.tasks r e) (λ fault. IsAnswer (length r.history.events) fault e))
+    × MatchOption r.fault (IsLack n g.tasks r e) (λ fault. IsRefusalForFault (length r.history.events) fault e))
 by_report n g e None given = given
 by_report n g e (Some r) given = (
   given.0,
   given.1,
-  why_weaker r.fault _ _ (λ fault. IsAnswer (length r.history.events) fault e)
+  why_weaker r.fault _ _ (λ fault. IsRefusalForFault (length r.history.events) fault e)
       (λ none lack. lacks_once n g.tasks r e given.1 lack) given.2,
 )
 

@@ -55,9 +55,9 @@ IsFull events = (events ≤ MAX_STEPS) × (MAX_STEPS ≤ events + 1)
 
 -- The refusal for a fault, after this many events: `HistoryFull` has their number, and is returned only if the history
 -- is full.
-abbrev pub IsAnswer : ℕ → Refusal → Refusal → Type 0
-IsAnswer events (HistoryFull k) e = ((e ≡ HistoryFull events) × IsFull events) ⊎ ((e ≡ Missing) × (IsFull events → ⊥))
-IsAnswer events fault e = e ≡ fault
+abbrev pub IsRefusalForFault : ℕ → Refusal → Refusal → Type 0
+IsRefusalForFault events (HistoryFull k) e = ((e ≡ HistoryFull events) × IsFull events) ⊎ ((e ≡ Missing) × (IsFull events → ⊥))
+IsRefusalForFault events fault e = e ≡ fault
 
 -- a part of the pool was not at its place
 abbrev pub IsMisplaced : Refusal → Type 0
@@ -76,7 +76,7 @@ IsFaultBy n g rounds Why f =
     (IsUngathered f.refusal)
     (λ r. IsReport n g r
     × (length (generations r.history.events) ≤ rounds)
-    × MatchOption r.fault (Why r f.refusal) (λ e. IsAnswer (length r.history.events) e f.refusal))
+    × MatchOption r.fault (Why r f.refusal) (λ e. IsRefusalForFault (length r.history.events) e f.refusal))
 
 -- Why a pool in which no fault was set has no outcome: its termination was detected and announced to each of n nodes,
 -- and not each task has one result and lived once, or an allocation failed in the check of that.

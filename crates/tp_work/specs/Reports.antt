@@ -8,8 +8,8 @@ use Rattle.tp_wave.specs.{Machine.{pending_at, steps_of, under_way}, Steps.count
 use Rattle.tp_work.specs.declared.gathered.Report.{Report}
 
 -- to how many of these nodes termination was announced
-abbrev pub told_of_end : {G : Type 0} → List (NodeState G) → ℕ
-told_of_end nodes = count_by (λ n. n.state.ended) nodes
+abbrev pub nodes_announced : {G : Type 0} → List (NodeState G) → ℕ
+nodes_announced nodes = count_by (λ n. n.state.ended) nodes
 
 -- The report has the sums over the nodes and the links, each counted over its own state, the number of nodes to which
 -- termination was announced, and the results of all nodes. Fault and events are the board's.
@@ -21,7 +21,7 @@ pub record IsGathered {G : Type 0} (nodes : List (NodeState G)) (links : List (P
     pub under : r.under ≡ sum_by (λ w. length w.messages) links
     pub balance : r.sent ≡ r.received + r.under
     pub done : r.done ≡ vec_len r.results
-    pub announced : r.announced ≡ told_of_end nodes
+    pub announced : r.announced ≡ nodes_announced nodes
     pub results : r.results.items ≡ flat_map (λ n. n.state.store.results) nodes
     pub fault : r.fault ≡ board.fault
     pub history : r.history.events ≡ board.history
@@ -57,7 +57,7 @@ pub record IsReport (n : ℕ) (g : TaskGraph) (r : Report) : Type 0 where
 -- and the board's fault and events.
 pub record IsReportOf (n : ℕ) (g : TaskGraph) {G : Type 0} (nodes : List (NodeState G)) (board : BoardState) (r : Report) : Type 0 where
   pub report : IsReport n g r
-  pub announced : r.announced ≡ told_of_end nodes
+  pub announced : r.announced ≡ nodes_announced nodes
   pub fault : r.fault ≡ board.fault
   pub history : r.history.events ≡ board.history
 
@@ -66,7 +66,7 @@ pub record IsReportOf (n : ℕ) (g : TaskGraph) {G : Type 0} (nodes : List (Node
 pub record IsOver (n : ℕ) {G : Type 0} (nodes : List (NodeState G)) (board : BoardState) : Type 0 where
   pub no_fault : board.fault ≡ None
   pub detected : IsTrue (is_ended n (present (steps_of board.history)))
-  pub announced : told_of_end nodes ≡ n
+  pub announced : nodes_announced nodes ≡ n
 
 -- How a pool ended: with its termination token if it is over, or with its fault.
 abbrev pub IsEnd : ℕ → {G T : Type 0} → List (NodeState G) → BoardState → Result T Refusal → Type 0

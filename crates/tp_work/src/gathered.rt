@@ -1,6 +1,6 @@
 //! The report of a pool: the sums over its nodes and links, and what its board kept.
 ghost use Rattle.std.specs.{List.{All, flat_map}, Prelude.{◌≡◌, ◌<◌, ◌≤◌, ◌+◌, ◌-◌, ◌*◌, ◌++◌, ◌∷◌, [], IfErr, IfOk, length, map, sum_by}};
-ghost use Rattle.{std.specs.Prelude.{vec_capacity, vec_len}, tp_work.specs.Reports.{AreOfTheRun, IsGathered, IsOfItsRun, told_of_end}};
+ghost use Rattle.{std.specs.Prelude.{vec_capacity, vec_len}, tp_work.specs.Reports.{AreOfTheRun, IsGathered, IsOfItsRun, nodes_announced}};
 ghost use Rattle.{tp_base.specs.declared.refusal.Refusal.TheVariants.NoMemory, tp_node.specs.{Nodes.counted_of, PoolLinks.link_of}};
 ghost use Rattle.tp_graph.specs.Left.{AreResults};
 
@@ -135,7 +135,7 @@ fn gather<G: Graph, K: Ledgers>(pool: Pool<G, K>, room: ReportRoom<K>) -> Report
 /// Returns the number of nodes to which termination was announced.
 pub(crate) fn count_told<G: Graph, K: Ledgers>(nodes: &[Node<G, K>]) -> u32
     requires { length nodes.now ≤ 8 }
-    ensures { result ≡ told_of_end nodes.now }
+    ensures { result ≡ nodes_announced nodes.now }
 {
     let mut told = 0;
     for node in nodes {

@@ -1,7 +1,7 @@
 //! The run queue of a node: begun tasks that wait for a worker, and how many of the ready ones begin at a time.
 ghost use Rattle.std.specs.{Option.option_to_list, Prelude.{◌≡◌, ◌≢◌, ◌⊎◌, ◌+◌, ◌-◌, ◌++◌, ◌*◌, ◌/◌, ◌<◌, ◌≤◌, [], None, Some, IfErr, max}};
 ghost use Rattle.std.specs.Prelude.{IfNone, IsFalse, IsOk, IsTrue, MatchOption, OnErr, OnOk, length, min, reverse, vec_capacity, vec_len};
-ghost use Rattle.{tp_base.specs.declared.refusal.Refusal.TheVariants.NoMemory, tp_board.specs.{Calls.Appends, States.AnswersBy}};
+ghost use Rattle.{tp_base.specs.declared.refusal.Refusal.TheVariants.NoMemory, tp_board.specs.{Calls.Appends, States.IsCheckedFor}};
 ghost use Rattle.{tp_node.specs.{Begins.{next_task, ready_count}, Refused.begin_checks}, tp_work.specs.RunQueues.BeginsEach};
 
 use std::alloc::Global;
@@ -152,7 +152,7 @@ impl<G: Graph, K: Ledgers> RunQueue<G, K> {
             (MatchOption begun.new (next_task self.old.node ≡ None) (λ first. next_task self.old.node ≡ Some first.task)) }
         ensures begun { OnOk result
             (BeginsEach (option_to_list begun.new ++ self.new.begun) self.old.node self.new.node board.old board.new) }
-        ensures refusal { MatchOption (next_task self.old.node) (Unit {0}) (λ t. AnswersBy (begin_checks board.old) 1 board.old result) }
+        ensures refusal { MatchOption (next_task self.old.node) (Unit {0}) (λ t. IsCheckedFor (begin_checks board.old) 1 board.old result) }
         ensures refused { OnErr result (Appends [] board.old board.new × (self.new ≡ self.old) × (begun.new ≡ begun.old)) }
         ensures full { board.old.limit ≡ 1048576 → length board.old.history < 1048576 → IfErr result (λ e. e ≡ NoMemory) }
     {
@@ -175,7 +175,7 @@ impl<G: Graph, K: Ledgers> RunQueue<G, K> {
             return;
         }
         begin_works(&mut self.node, board, count, &mut self.begun);
-        turn_round(&mut self.begun);
+        reverse_list(&mut self.begun);
     }
 }
 
@@ -202,7 +202,7 @@ fn begin_works<G: Graph, K: Ledgers>(
 }
 
 /// Reverses a list.
-fn turn_round<T>(items: &mut Vec<T>)
+fn reverse_list<T>(items: &mut Vec<T>)
     ensures { items.new.items ≡ reverse items.old.items }
 {
     items.as_mut_slice().reverse();

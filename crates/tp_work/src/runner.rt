@@ -2,7 +2,8 @@
 ghost use Rattle.std.specs.{Option.unwrap_or, Prelude.{◌≡◌, ◌≢◌, ◌≤◌, ◌↔◌, ◌*◌, ◌-◌, length, vec_len, IfErr, IfOk, IfSome, IsTrue}};
 ghost use Rattle.{std.specs.Prelude.{MatchOption, MatchResult, Err, IsOk, None, OnOk, Some}, tp_board.specs.States.with_fault};
 ghost use Rattle.tp_base.specs.declared.{limits.TheConstants.MAX_STEPS, refusal.Refusal.TheVariants.{Missing, NoMemory, Stranger}};
-ghost use Rattle.{tp_wave.specs.{Generations.present, Machine.steps_of, Sums.is_ended}, tp_work.specs.Reports.{IsReportOf, told_of_end}};
+ghost use Rattle.tp_wave.specs.{Generations.present, Machine.steps_of, Sums.is_ended};
+ghost use Rattle.tp_work.specs.Reports.{IsReportOf, nodes_announced};
 ghost use Rattle.tp_work.specs.{Lives.generations, Outcomes.{IsMisplaced, IsUngathered, IsWithinLimits}, Places.IsWhole, Reports.IsEnd};
 
 use crate::config::{Config, Fault};
@@ -250,7 +251,7 @@ fn end_of<G: Graph, K: Ledgers>(
     ensures over { OnOk result (board.new ≡ board.old) }
     ensures fault { IfErr result (λ e. board.new ≡ with_fault e board.old) }
     ensures missing { IfErr result (λ e. board.old.fault ≡ None → (e ≡ Missing)
-        × (IfSome token (λ _. told_of_end nodes.now ≡ K.names.nodes → ⊥))) }
+        × (IfSome token (λ _. nodes_announced nodes.now ≡ K.names.nodes → ⊥))) }
 {
     match token {
         Some(ended) if is_free_of_fault(nodes, board) => Ok(audited(board, ended)),
@@ -261,7 +262,7 @@ fn end_of<G: Graph, K: Ledgers>(
 /// Returns whether no fault was set, and termination was announced to each node.
 fn is_free_of_fault<G: Graph, K: Ledgers>(nodes: &[Node<G, K>], board: &Board<K>) -> bool
     requires { length nodes.now ≡ K.names.nodes }
-    ensures { IsTrue result ↔ ((board.now.fault ≡ None) × (told_of_end nodes.now ≡ K.names.nodes)) }
+    ensures { IsTrue result ↔ ((board.now.fault ≡ None) × (nodes_announced nodes.now ≡ K.names.nodes)) }
 {
     let count = board.nodes();
     board.fault().is_none() && count_told(nodes) == count

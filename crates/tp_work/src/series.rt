@@ -5,7 +5,8 @@ ghost use Rattle.std.specs.Prelude.{◌≡◌, ◌≤◌, ◌<◌, ◌+◌, ◌*
 ghost use Rattle.std.specs.Prelude.{vec_capacity, vec_len, Err, IfErr, IfOk, IfSome, MatchOption, MatchResult, None, Ok, OnOk, Some};
 ghost use Rattle.tp_base.specs.declared.{limits.TheConstants.MAX_STEPS, refusal.Refusal.TheVariants.{HistoryFull, Missing, NoMemory}};
 ghost use Rattle.{tp_wave.specs.Generations.present_events, tp_work.specs.{Lives.{generations, sent_in}, declared.series.Round.Round}};
-ghost use Rattle.tp_work.specs.{Outcomes.{HasEnded, IsAnswer, IsFaultOf, IsWithinLimits, Lacks}, Reports.{IsEnd, IsOver, IsReport}};
+ghost use Rattle.tp_work.specs.Outcomes.{HasEnded, IsRefusalForFault, IsFaultOf, IsWithinLimits, Lacks};
+ghost use Rattle.tp_work.specs.Reports.{IsEnd, IsOver, IsReport};
 ghost use Rattle.tp_work.specs.{Places.IsWhole, Series.{AddsKept, IsDoneOnceInEach, IsKept, IsSeries, IsSeriesFault, with_messages}};
 
 use crate::config::{Config, Fault};
@@ -214,7 +215,7 @@ fn next_generation<G: Graph, K: Ledgers>(
         → IsSeriesFault K.names.nodes (G.meaning graph) count f) }
     ensures stopped { IfErr result (λ f. IfErr ran.end (λ fault.
         IsFaultOf K.names.nodes (G.meaning graph) ran.pool.nodes.items ran.pool.board
-        (IsAnswer (length ran.pool.board.history) fault) f)) }
+        (IsRefusalForFault (length ran.pool.board.history) fault) f)) }
 {
     let Ran {
         pool,
@@ -330,7 +331,7 @@ fn keep_unless<G: Graph, K: Ledgers>(
 fn stopped<G: Graph, K: Ledgers>(alloc: Global, graph: G, pool: Pool<G, K>, fault: Refusal) -> Fault
     requires whole { IsWhole K.names.nodes graph pool.nodes.items pool.links.items }
     ensures { IsFaultOf K.names.nodes (G.meaning graph) pool.nodes.items pool.board
-        (IsAnswer (length pool.board.history) fault) result }
+        (IsRefusalForFault (length pool.board.history) fault) result }
 {
     let refusal = answer_to(fault, pool.board.len());
     stopped_for(alloc, graph, pool, refusal)
@@ -370,7 +371,7 @@ fn series_of<G: Graph, K: Ledgers>(
     ensures fault { IfErr result (IsSeriesFault config.nodes (G.meaning graph.now) (vec_len rounds + 1)) }
     ensures of_pool { IfErr result
         (IsFaultOf config.nodes (G.meaning graph.now) ran.pool.nodes.items ran.pool.board (λ e.
-        IfSome ran.pool.board.fault (λ fault. IsAnswer (length ran.pool.board.history) fault e))) }
+        IfSome ran.pool.board.fault (λ fault. IsRefusalForFault (length ran.pool.board.history) fault e))) }
 {
     let Ran {
         pool,
@@ -403,7 +404,7 @@ fn series_from<G: Graph>(
     ensures no_fault { OnOk result (report.fault ≡ None) }
     ensures fault { IfErr result (λ f. (f.report ≡ Some report)
         × MatchOption report.fault (Lacks (IsDoneOnceInEach (G.meaning graph.now).tasks report) f.refusal) (λ fault.
-        IsAnswer (length report.history.events) fault f.refusal)) }
+        IsRefusalForFault (length report.history.events) fault f.refusal)) }
 {
     let tasks = graph.tasks();
     match sent_of(alloc, tasks, rounds.len() + 1, &report) {
@@ -453,7 +454,7 @@ fn sent_of(alloc: Global, tasks: u32, count: usize, report: &Report) -> Result<V
     ensures sent { IfOk result (λ sent. sent.items ≡ reverse (map sent_in (generations report.now.history.events))) }
     ensures refusal { IfErr result (λ e.
         MatchOption report.now.fault (Lacks (IsDoneOnceInEach tasks report.now) e) (λ fault.
-        IsAnswer (length report.now.history.events) fault e)) }
+        IsRefusalForFault (length report.now.history.events) fault e)) }
 {
     match report.fault {
         Some(fault) => Err(answer_to(fault, report.history.len())),
@@ -508,7 +509,7 @@ fn tell(rounds: &mut [Round], sent: &[u32])
 
 /// Returns the refusal for a fault, after `events` events.
 fn answer_to(fault: Refusal, events: usize) -> Refusal
-    ensures { IsAnswer events fault result }
+    ensures { IsRefusalForFault events fault result }
 {
     let Refusal::HistoryFull(_) = fault else {
         return fault;

@@ -11,11 +11,11 @@ use tp_base::{MAX_NODES, NodeId, Refusal, Step};
 use tp_wave::Wave;
 
 impl Core {
-    ghost use Rattle.tp_core.specs.Accepted.{Answers};
+    ghost use Rattle.tp_core.specs.Accepted.{AcceptsOrRefuses};
 
     // Starts a wave.
     pub(super) fn start(&mut self) -> Result<Reply, Refusal>
-        ensures { Answers self.old Step.Start result self.new }
+        ensures { AcceptsOrRefuses self.old Step.Start result self.new }
     {
         if self.steps.is_out_of_waves() {
             return Err(Refusal::StoreFull);
@@ -27,7 +27,7 @@ impl Core {
     pub(super) fn control(&mut self, step: Step) -> Result<Reply, Refusal>
         requires control { IsTrue (is_control step) }
         requires few { IsTrue (is_start step) → waves (present self.old.steps) ≤ MAX_STEPS }
-        ensures { Answers self.old step result self.new }
+        ensures { AcceptsOrRefuses self.old step result self.new }
     {
         let mut wave = self.wave;
         let reply = advance(&mut wave, &self.numbers, step)?;

@@ -23,7 +23,8 @@ pub enum Maker {
 }
 
 impl Core {
-    ghost use Rattle.tp_core.specs.{Accepted.world_of, Makers.{home_if_known, is_maker, is_running_at, made_at}, World.{Opening, Named}};
+    ghost use Rattle.tp_core.specs.{Accepted.world_of, Makers.{home_if_known, is_maker, is_running_at, node_of_work}};
+    ghost use Rattle.tp_core.specs.World.{Opening, Named};
     ghost use Rattle.tp_core.specs.{Left.{IsNextLeft, home_and_life}, World.{OfMessage, is_open, is_under_way}};
     ghost use Rattle.tp_wave.specs.{Generations.present, Sums.is_ended};
 
@@ -113,8 +114,8 @@ impl Core {
     /// Returns the node at which a step makes work, or begins or finishes a task. There is none for the other steps, or if
     /// there is no such task.
     #[inline(always)]
-    pub fn made_at(&self, step: Step) -> Option<NodeId>
-        ensures { option_map (λ i. i.0) result ≡ made_at step (world_of self.now) }
+    pub fn node_of_work(&self, step: Step) -> Option<NodeId>
+        ensures { option_map (λ i. i.0) result ≡ node_of_work step (world_of self.now) }
     {
         match step {
             Step::Insert(node, _, _) | Step::ActionOpen(node, _) | Step::Send(node, _, _, _) => {
@@ -134,23 +135,23 @@ impl Core {
     {
         // (the node is looked up in each arm, so that the maker is matched once)
         match maker {
-            Maker::Task(task) => match self.made_at(step) {
+            Maker::Task(task) => match self.node_of_work(step) {
                 Some(node) => self.is_running(node, task),
                 None => false,
             },
-            Maker::Action(action) => match self.made_at(step) {
+            Maker::Action(action) => match self.node_of_work(step) {
                 Some(node) => self.is_open(node, action),
                 None => false,
             },
-            Maker::Message(message) => match self.made_at(step) {
+            Maker::Message(message) => match self.node_of_work(step) {
                 Some(node) => self.is_received(node, message),
                 None => false,
             },
-            Maker::Opening => match self.made_at(step) {
+            Maker::Opening => match self.node_of_work(step) {
                 Some(node) => self.is_opening(node),
                 None => false,
             },
-            Maker::Thread(own) => match self.made_at(step) {
+            Maker::Thread(own) => match self.node_of_work(step) {
                 Some(node) => runs_tasks(step) && own.0 == node.0,
                 None => false,
             },

@@ -12,7 +12,7 @@ use crate::reply::Reply;
 use tp_base::{ActionId, Generation, Inputs, MessageId, NodeId, Refusal, Step, TaskId};
 
 impl Core {
-    ghost use Rattle.tp_core.specs.Accepted.{Answers};
+    ghost use Rattle.tp_core.specs.Accepted.{AcceptsOrRefuses};
 
     #[inline(always)]
     pub(super) fn insert(
@@ -21,7 +21,7 @@ impl Core {
         task: TaskId,
         inputs: Inputs,
     ) -> Result<Reply, Refusal>
-        ensures { Answers self.old (Step.Insert home task inputs) result self.new }
+        ensures { AcceptsOrRefuses self.old (Step.Insert home task inputs) result self.new }
     {
         if home.0 >= self.nodes {
             return Err(Refusal::NoNode);
@@ -42,7 +42,7 @@ impl Core {
     }
 
     pub(super) fn supply(&mut self, task: TaskId) -> Result<Reply, Refusal>
-        ensures { Answers self.old (Step.Supply task) result self.new }
+        ensures { AcceptsOrRefuses self.old (Step.Supply task) result self.new }
     {
         let Some(held) = self.tasks.get(task.0) else {
             return Err(Refusal::NoTask);
@@ -59,7 +59,7 @@ impl Core {
 
     #[inline(always)]
     pub(super) fn begin(&mut self, task: TaskId) -> Result<Reply, Refusal>
-        ensures { Answers self.old (Step.Begin task) result self.new }
+        ensures { AcceptsOrRefuses self.old (Step.Begin task) result self.new }
     {
         let Some(held) = self.tasks.get(task.0) else {
             return Err(Refusal::NoTask);
@@ -76,7 +76,7 @@ impl Core {
 
     #[inline(always)]
     pub(super) fn done(&mut self, task: TaskId) -> Result<Reply, Refusal>
-        ensures { Answers self.old (Step.Done task) result self.new }
+        ensures { AcceptsOrRefuses self.old (Step.Done task) result self.new }
     {
         let Some(held) = self.tasks.get(task.0) else {
             return Err(Refusal::NoTask);
@@ -94,7 +94,7 @@ impl Core {
     }
 
     pub(super) fn open(&mut self, node: NodeId, action: ActionId) -> Result<Reply, Refusal>
-        ensures { Answers self.old (Step.ActionOpen node action) result self.new }
+        ensures { AcceptsOrRefuses self.old (Step.ActionOpen node action) result self.new }
     {
         if node.0 >= self.nodes {
             return Err(Refusal::NoNode);
@@ -115,7 +115,7 @@ impl Core {
     }
 
     pub(super) fn close(&mut self, node: NodeId, action: ActionId) -> Result<Reply, Refusal>
-        ensures { Answers self.old (Step.ActionClose node action) result self.new }
+        ensures { AcceptsOrRefuses self.old (Step.ActionClose node action) result self.new }
     {
         if node.0 >= self.nodes {
             return Err(Refusal::NoNode);
@@ -135,7 +135,7 @@ impl Core {
     }
 
     pub(super) fn ready(&mut self, node: NodeId) -> Result<Reply, Refusal>
-        ensures { Answers self.old (Step.Ready node) result self.new }
+        ensures { AcceptsOrRefuses self.old (Step.Ready node) result self.new }
     {
         if node.0 >= self.nodes {
             return Err(Refusal::NoNode);
@@ -158,7 +158,7 @@ impl Core {
         message: MessageId,
         generation: Generation,
     ) -> Result<Reply, Refusal>
-        ensures { Answers self.old (Step.Send from to message generation) result self.new }
+        ensures { AcceptsOrRefuses self.old (Step.Send from to message generation) result self.new }
     {
         if from.0 >= self.nodes || to.0 >= self.nodes {
             return Err(Refusal::NoNode);
@@ -191,7 +191,7 @@ impl Core {
         message: MessageId,
         generation: Generation,
     ) -> Result<Reply, Refusal>
-        ensures { Answers self.old (Step.Recv node message generation) result self.new }
+        ensures { AcceptsOrRefuses self.old (Step.Recv node message generation) result self.new }
     {
         if node.0 >= self.nodes {
             return Err(Refusal::NoNode);
@@ -222,7 +222,7 @@ impl Core {
         message: MessageId,
         generation: Generation,
     ) -> Result<Reply, Refusal>
-        ensures { Answers self.old (Step.MessageEnd node message generation) result self.new }
+        ensures { AcceptsOrRefuses self.old (Step.MessageEnd node message generation) result self.new }
     {
         if node.0 >= self.nodes {
             return Err(Refusal::NoNode);

@@ -7,11 +7,11 @@ use tp_base::{Generation, Refusal, Step};
 use tp_wave::Wave;
 
 impl Core {
-    ghost use Rattle.tp_core.specs.Accepted.{Answers};
+    ghost use Rattle.tp_core.specs.Accepted.{AcceptsOrRefuses};
 
     // The list of steps goes on, and everything else is as in a new core of the next generation.
     pub(super) fn reopen(&mut self) -> Result<Reply, Refusal>
-        ensures { Answers self.old Step.Reopen result self.new }
+        ensures { AcceptsOrRefuses self.old Step.Reopen result self.new }
     {
         if !self.wave.is_over() {
             return Err(Refusal::WrongLife);

@@ -1,5 +1,6 @@
 //! The call that describes a whole graph. It builds the graph in a pool of its own by `task` and `input`: so a refusal changes nothing.
-ghost use Rattle.std.specs.Prelude.{◌≡◌, ◌≤◌, ◌<◌, ◌+◌, ◌-◌, ◌⊎◌, ℕ, length, IfErr, IfSome, IsFalse, OnOk, OnErr, Err, Some, None, slice_range};
+ghost use Rattle.std.specs.Prelude.{◌≡◌, ◌≤◌, ◌<◌, ◌+◌, ◌-◌, ◌⊎◌, ℕ, length, IfErr, IfSome};
+ghost use Rattle.std.specs.Prelude.{IsFalse, OnOk, OnErr, Err, Some, None, slice_range};
 ghost use Rattle.std.specs.List.{slice_index_or};
 ghost use Rattle.tp_base.specs.Checks.{first_refusal};
 ghost use Rattle.tp_dag.specs.Calls.{with_task};

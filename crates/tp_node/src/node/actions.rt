@@ -1,6 +1,6 @@
 //! The calls of a node that open and close actions, and the announcement of termination.
 ghost use Rattle.std.specs.Prelude.{◌≡◌, [], ◌∷◌, IfErr, OnErr, OnOk};
-ghost use Rattle.{tp_board.specs.{Calls.{AnswersFirst, Appends}, States.{AnswersBy, IsAtPiece}}, tp_store.specs.Content.unfinished};
+ghost use Rattle.{tp_board.specs.{Calls.{IsChecked, Appends}, States.{IsCheckedFor, IsAtPiece}}, tp_store.specs.Content.unfinished};
 ghost use Rattle.tp_monitor.specs.declared.state.TaskpoolState.TheVariants.{Terminated};
 ghost use Rattle.tp_node.specs.{Locals.{pending_here, standing, EachOnce}, Nodes.{HasNoSeed, closed_with, closing, closing_of, event_of}};
 ghost use Rattle.tp_node.specs.{Nodes.{made_ready, opened_with, opening_of, over}, Refused.{close_checks, open_checks, ready_checks}};
@@ -19,7 +19,7 @@ impl<G: Graph, K: Ledgers> Node<G, K> {
         requires seeded { HasNoSeed (G.meaning self.old.graph) self.old }
         ensures event { OnOk result (Appends (event_of self.old (closing self.old) ∷ []) board.old board.new) }
         ensures closed { OnOk result (self.new ≡ made_ready self.old) }
-        ensures refusal { AnswersBy (ready_checks self.old board.old) 1 board.old result }
+        ensures refusal { IsCheckedFor (ready_checks self.old board.old) 1 board.old result }
         ensures piece { IfErr result (IsAtPiece board.old) }
         ensures refused { OnErr result (Appends [] board.old board.new × (self.new ≡ self.old)) }
     {
@@ -40,7 +40,7 @@ impl<G: Graph, K: Ledgers> Node<G, K> {
     pub fn action_open(&mut self, board: &mut Board<K>, action: ActionId) -> Result<(), Refusal>
         ensures event { OnOk result (Appends (event_of self.old (opening_of action.0 self.old) ∷ []) board.old board.new) }
         ensures opened { OnOk result (self.new ≡ opened_with action.0 self.old) }
-        ensures refusal { AnswersFirst (open_checks self.old board.old action.0) result }
+        ensures refusal { IsChecked (open_checks self.old board.old action.0) result }
         ensures refused { OnErr result (Appends [] board.old board.new × (self.new ≡ self.old)) }
     {
         if self.local.has_named(action) {
@@ -66,7 +66,7 @@ impl<G: Graph, K: Ledgers> Node<G, K> {
     pub fn action_close(&mut self, board: &mut Board<K>, action: ActionId) -> Result<(), Refusal>
         ensures event { OnOk result (Appends (event_of self.old (closing_of action.0 self.old) ∷ []) board.old board.new) }
         ensures closed { OnOk result (self.new ≡ closed_with action.0 self.old) }
-        ensures refusal { AnswersBy (close_checks self.old board.old action.0) 1 board.old result }
+        ensures refusal { IsCheckedFor (close_checks self.old board.old action.0) 1 board.old result }
         ensures piece { IfErr result (IsAtPiece board.old) }
         ensures refused { OnErr result (Appends [] board.old board.new × (self.new ≡ self.old)) }
     {

@@ -1,6 +1,6 @@
 //! Beginning several ready tasks at once.
 ghost use Rattle.std.specs.Prelude.{◌≡◌, ◌≤◌, ◌<◌, [], ◌∷◌, None, Some, min, IfErr, IfOk, IfSome, IsOk, MatchOption, OnErr};
-ghost use Rattle.{tp_board.specs.{Calls.Appends, States.{AnswersBy, IsPastPiece, full_check}}, tp_slots.specs.Content.front};
+ghost use Rattle.{tp_board.specs.{Calls.Appends, States.{IsCheckedFor, IsPastPiece, full_check}}, tp_slots.specs.Content.front};
 ghost use Rattle.{tp_node.specs.{Begins.{BeginsSome, ready_count}, Calls.Begins}, tp_store.specs.{Content.life_of, Sound.IsSound}};
 ghost use Rattle.tp_store.specs.declared.life.Life.TheVariants as lives;
 
@@ -27,7 +27,7 @@ impl<G: Graph, K: Ledgers> Node<G, K> {
         ensures none { ready_count self.old ≡ 0 → IsOk result }
         ensures begun { IfOk result (λ works. BeginsSome self.old self.new board.old board.new (min (ready_count self.old) max)
             works.items) }
-        ensures refusal { AnswersBy (full_check (min (ready_count self.old) max) board.old ∷ [])
+        ensures refusal { IsCheckedFor (full_check (min (ready_count self.old) max) board.old ∷ [])
             (min (ready_count self.old) max) board.old result }
         ensures piece { IfErr result (IsPastPiece (min (ready_count self.old) max) board.old) }
         ensures refused { OnErr result (Appends [] board.old board.new × (self.new ≡ self.old)) }

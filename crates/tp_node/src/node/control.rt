@@ -1,7 +1,7 @@
 //! The control turn of a node.
 ghost use Rattle.std.specs.Prelude.{◌≡◌, [], ◌∷◌, IfErr, IfNone, IfOk, IfSome, OnErr, OnOk};
 ghost use Rattle.tp_node.specs.Turns.{turn_of};
-ghost use Rattle.tp_board.specs.{Calls.Appends, States.{AnswersBy, IsAtPiece, full_check}, Turns.{IsMade, control_event, ends}};
+ghost use Rattle.tp_board.specs.{Calls.Appends, States.{IsCheckedFor, IsAtPiece, full_check}, Turns.{MovesOrEnds, control_event, ends}};
 
 use crate::node::Node;
 use tp_base::Refusal;
@@ -25,8 +25,8 @@ impl<G: Graph, K: Ledgers> Node<G, K> {
         ensures fault { IfSome board.old.fault (λ _. (result ≡ Ok Turn.Idle) × (board.new ≡ board.old)) }
         ensures idle { IfNone (turn_of self.old board.old) ((result ≡ Ok Turn.Idle) × Appends [] board.old board.new) }
         ensures event { IfSome (turn_of self.old board.old) (λ s. OnOk result (Appends (control_event s ∷ []) board.old board.new)) }
-        ensures answer { IfSome (turn_of self.old board.old) (λ s. IfOk result (IsMade (ends self.old.nodes board.old.history s))) }
-        ensures refusal { IfSome (turn_of self.old board.old) (λ s. AnswersBy (full_check 1 board.old ∷ []) 1 board.old result) }
+        ensures answer { IfSome (turn_of self.old board.old) (λ s. IfOk result (MovesOrEnds (ends self.old.nodes board.old.history s))) }
+        ensures refusal { IfSome (turn_of self.old board.old) (λ s. IsCheckedFor (full_check 1 board.old ∷ []) 1 board.old result) }
         ensures piece { IfErr result (IsAtPiece board.old) }
         ensures refused { OnErr result (Appends [] board.old board.new) }
     {

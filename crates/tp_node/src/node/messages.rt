@@ -1,7 +1,7 @@
 //! The calls of a node that send, receive and deliver messages.
 ghost use Rattle.std.specs.Prelude.{◌≡◌, ◌≤◌, ◌<◌, ◌+◌, [], ◌∷◌, false, Some, None, slice_get, IfOk, IsTrue, MatchOption, OnErr, OnOk};
 ghost use Rattle.tp_base.specs.Checks.{first_refusal};
-ghost use Rattle.tp_board.specs.{Calls.{AnswersFirst, AnswersWith, Appends}, Numbers.{is_send, receiving, sending}};
+ghost use Rattle.tp_board.specs.{Calls.{IsChecked, IsCheckedWith, Appends}, Numbers.{is_send, receiving, sending}};
 ghost use Rattle.{tp_graph.specs.Carried.IsFeed, tp_wave.specs.{Generations.present, Machine.{is_send_to, steps_of}, Steps.{any, count}}};
 ghost use Rattle.tp_node.specs.{Actions.{has_message, without_message}, Calls.{Receives, Rests}, Feeds.{HasFeed, next_feed_of, next_home}};
 ghost use Rattle.tp_node.specs.{Feeds.passed_on, Nodes.{HasBrought, after, delivered_with, ending_of, event_of, putting_at, with_actions}};
@@ -43,7 +43,7 @@ impl<G: Graph, K: Ledgers> Node<G, K> {
             (message_on pool_link.old self.old.graph (generation_of board.old) m.0 (next_feed_of (G.meaning self.old.graph) finished.old)
             finished.old.value) pool_link.old) }
         ensures passed { OnOk result (finished.new ≡ passed_on finished.old) }
-        ensures refusal { AnswersFirst (send_checks self.old board.old finished.old.task) result }
+        ensures refusal { IsChecked (send_checks self.old board.old finished.old.task) result }
         ensures refused { OnErr result (Appends [] board.old board.new × (self.new ≡ self.old) × (pool_link.new ≡ pool_link.old)
             × (finished.new ≡ finished.old)) }
     {
@@ -80,7 +80,7 @@ impl<G: Graph, K: Ledgers> Node<G, K> {
             ∷ event_of self.old (putting_at (G.meaning self.old.graph) parcel.feed self.old) ∷ []) board.old board.new) }
         ensures delivered { OnOk result (self.new
             ≡ delivered_with (G.meaning self.old.graph) parcel.feed parcel.value (generation_of board.old) parcel.number.0 self.old) }
-        ensures refusal { AnswersWith (deliver_checks (G.meaning self.old.graph) self.old board.old parcel.feed) parcel result }
+        ensures refusal { IsCheckedWith (deliver_checks (G.meaning self.old.graph) self.old board.old parcel.feed) parcel result }
         ensures refused { OnErr result (Appends [] board.old board.new × (self.new ≡ self.old)) }
     {
         let feed = parcel.feed();
@@ -123,7 +123,7 @@ impl<G: Comparable, K: Ledgers> Node<G, K> {
             × (pool_link.new ≡ pool_link.old)) (Receives self.old self.new board.old board.new pool_link.old pool_link.new)) }
         ensures brought { IfOk result (λ parcel. MatchOption parcel (Unit {0}) (HasBrought (G.meaning self.new.graph) self.new)) }
         ensures refusal { MatchOption (slice_get pool_link.old.messages 0) (Unit {0}) (λ m.
-            AnswersFirst (receive_checks self.old board.old pool_link.old (G.eq m.graph self.old.graph) m) result) }
+            IsChecked (receive_checks self.old board.old pool_link.old (G.eq m.graph self.old.graph) m) result) }
         ensures refused { OnErr result (Appends [] board.old board.new × (self.new ≡ self.old) × (pool_link.new ≡ pool_link.old)) }
     {
         let Some(message) = pool_link.front() else {
@@ -179,7 +179,7 @@ impl<G: Graph, K: Ledgers> Node<G, K> {
         ensures free { OnOk result
             (refusal_of_deliver self.now.state.store feed.target ((G.meaning self.now.graph).arity feed.target.0) feed.slot
             ≡ None) }
-        ensures refusal { AnswersFirst (deliver_checks (G.meaning self.now.graph) self.now board.old feed) result }
+        ensures refusal { IsChecked (deliver_checks (G.meaning self.now.graph) self.now board.old feed) result }
         ensures same { Appends [] board.old board.new }
     {
         let is_full = self.check_put(feed)?;

@@ -2,7 +2,7 @@
 ghost use Rattle.std.specs.Prelude.{◌≡◌, ◌≤◌, ◌<◌, ◌+◌, ◌-◌, ℕ, [], ◌∷◌, false, Some, None, if◌then◌else◌, is_some, IfErr, IfOk, IsTrue};
 ghost use Rattle.{std.specs.Prelude.{MatchBool, MatchOption, OnErr, OnOk}, tp_graph.specs.{Carried.IsFeed, Left.left_of, Values.IsInput}};
 ghost use Rattle.tp_base.specs.{Checks.first_refusal, declared.refusal.Refusal.TheVariants.{NoMemory, StoreFull, WrongLife}};
-ghost use Rattle.tp_board.specs.{Calls.{AnswersFirst, AnswersByWith, Appends}, States.{AnswersBy, IsAtPiece, IsPastPiece, full_check}};
+ghost use Rattle.tp_board.specs.{Calls.{IsChecked, IsCheckedForWith, Appends}, States.{IsCheckedFor, IsAtPiece, IsPastPiece, full_check}};
 ghost use Rattle.tp_node.specs.{Calls.{Begins, Rests, SeedsIf}, Feeds.{HasFeed, next_feed_of, next_home, passed_on}, Nodes.HasNoSeed};
 ghost use Rattle.tp_node.specs.Nodes.{IsFirst, IsNextSeed, IsSeed, IsSeedOf, done_with, event_of, fed_with, inserting, putting_at, seeded};
 ghost use Rattle.tp_node.specs.{Nodes.{seeding, task_at}, Refused.{begin_checks, done_checks, feed_checks, lacks_place, runs, seed_checks}};
@@ -26,7 +26,7 @@ impl<G: Graph, K: Ledgers> Node<G, K> {
         ensures none { HasNoSeed (G.meaning self.old.graph) self.old → result ≡ Ok false }
         ensures seeded { IfOk result (SeedsIf self.old self.new board.old board.new (G.meaning self.old.graph)) }
         ensures refusal { (t : ℕ) → IsNextSeed (G.meaning self.old.graph) self.old t
-            → AnswersFirst (seed_checks self.old board.old (task_at t)) result }
+            → IsChecked (seed_checks self.old board.old (task_at t)) result }
         ensures refused { OnErr result (Appends [] board.old board.new × (self.new ≡ self.old)) }
     {
         let Some(task) = self.next_seed() else {
@@ -47,7 +47,7 @@ impl<G: Graph, K: Ledgers> Node<G, K> {
             ((front self.old.state.store.ready ≡ None) × Rests self.old self.new board.old board.new)
             (Begins self.old self.new board.old board.new)) }
         ensures refusal { MatchOption (front self.old.state.store.ready) (Unit {0})
-            (λ t. AnswersBy (begin_checks board.old) 1 board.old result) }
+            (λ t. IsCheckedFor (begin_checks board.old) 1 board.old result) }
         ensures piece { IfErr result (IsPastPiece 1 board.old) }
         ensures refused { OnErr result (Appends [] board.old board.new × (self.new ≡ self.old)) }
     {
@@ -75,7 +75,7 @@ impl<G: Graph, K: Ledgers> Node<G, K> {
         ensures put { OnOk result (self.new
             ≡ fed_with (G.meaning self.old.graph) (next_feed_of (G.meaning self.old.graph) finished.old) finished.old.value self.old) }
         ensures passed { OnOk result (finished.new ≡ passed_on finished.old) }
-        ensures refusal { AnswersFirst (feed_checks (G.meaning self.old.graph) self.old board.old finished.old.task
+        ensures refusal { IsChecked (feed_checks (G.meaning self.old.graph) self.old board.old finished.old.task
             (next_feed_of (G.meaning self.old.graph) finished.old)) result }
         ensures refused { OnErr result (Appends [] board.old board.new × (self.new ≡ self.old) × (finished.new ≡ finished.old)) }
     {
@@ -110,7 +110,7 @@ impl<G: Graph, K: Ledgers> Node<G, K> {
         ensures event { OnOk result (Appends (event_of self.old (steps.Done finished.task) ∷ []) board.old board.new) }
         ensures done { OnOk result (self.new
             ≡ done_with finished.task (left_of (G.meaning self.old.graph) finished.task.0 finished.value) self.old) }
-        ensures refusal { AnswersByWith (done_checks self.old board.old finished.task) 1 board.old finished result }
+        ensures refusal { IsCheckedForWith (done_checks self.old board.old finished.task) 1 board.old finished result }
         ensures piece { IfErr result (λ e. IsAtPiece board.old e.0) }
         ensures refused { OnErr result (Appends [] board.old board.new × (self.new ≡ self.old)) }
     {
@@ -149,7 +149,7 @@ impl<G: Graph, K: Ledgers> Node<G, K> {
         requires seed { IsSeedOf (G.meaning self.old.graph) self.old task }
         ensures event { OnOk result (Appends (event_of self.old (seeding self.old task) ∷ []) board.old board.new) }
         ensures seeded { OnOk result (self.new ≡ seeded (G.meaning self.old.graph) task self.old) }
-        ensures refusal { AnswersFirst (seed_checks self.old board.old (task_at task)) result }
+        ensures refusal { IsChecked (seed_checks self.old board.old (task_at task)) result }
         ensures refused { OnErr result (Appends [] board.old board.new × (self.new ≡ self.old)) }
     {
         let task = TaskId(task);
@@ -285,7 +285,7 @@ pub(crate) fn make_room<K: Ledgers>(
     is_full: bool,
 ) -> Result<(), Refusal>
     ensures reserved { OnOk result (events ≤ board.new.reserved) }
-    ensures refusal { AnswersFirst (full_check events board.old ∷ (is_full, StoreFull) ∷ []) result }
+    ensures refusal { IsChecked (full_check events board.old ∷ (is_full, StoreFull) ∷ []) result }
     ensures same { Appends [] board.old board.new }
 {
     let room = board.reserve(events);

@@ -1,6 +1,7 @@
 use Rattle.clap.{specs.{Values.kind_of, declared.error.kind.ErrorKind.TheVariants.MissingSubcommand}}
 use Rattle.std.proofs.{Common.{inl, inr, map, subst, sym}, lemmas.Result.{IfErr-weaker, IfOk-weaker}}
-use Rattle.tp_cli.{proofs.Ending.{hidden, request_fault}, specs.{Command.{IsNeither, asked, tp_app}, Ends.{HasFault, IsFaultOf, IsOutputOf}}}
+use Rattle.tp_cli.proofs.Ending.{hidden, request_fault}
+use Rattle.tp_cli.specs.{Command.{IsNeither, asked, tp_app}, Ends.{HasFault, IsFaultOf, IsOutputOf}}
 use Rattle.tp_cli.specs.declared.request.Request.TheVariants as requests
 use Rattle.tp_shell.proofs.Asked.{shown_asked, words_fault}
 use Rattle.tp_cli.proofs.cli.answer_words.Goals as goal

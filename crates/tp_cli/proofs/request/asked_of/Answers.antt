@@ -1,6 +1,6 @@
 use Rattle.clap.{proofs.WalkLemmas.first_value-rows, specs.Words.{found_of, rows_of}}
 use Rattle.std.proofs.{Common.{◌≡◌, ◌∙◌, ap, codes, subst, sym, Some}, lemmas.Result.IfOk-weaker}
-use Rattle.tp_cli.{proofs.Asked.{asked_as, pools_unnamed, run_unnamed}, specs.Asked.IsMadeBy}
+use Rattle.tp_cli.{proofs.Asked.{asked_as, pools_unnamed, run_unnamed}, specs.Asked.IsRequestOf}
 use Rattle.tp_cli.proofs.request.asked_of.Goals as goal
 
 pub returns-in-run : goal.returns-in-run
@@ -9,7 +9,7 @@ returns-in-run c =
     let is : c.args.name.now ≡ codes "run" = c.in-run.is in
     asked_as c.run_asked.result _ _ _ _
     (λ lacks. run_unnamed c.args.name.now (rows_of found) is (sym (first_value-rows found (codes "SPEC")) ∙ lacks))
-    (λ request made. subst (λ name. IsMadeBy (Some (name, rows_of found)) request) (sym is) made)
+    (λ request made. subst (λ name. IsRequestOf (Some (name, rows_of found)) request) (sym is) made)
     c.run_asked.ensures
 
 pub returns-in-pools : goal.returns-in-pools
@@ -19,7 +19,7 @@ returns-in-pools c =
     IfOk-weaker c.pools_asked.result _ _
     (λ o asked. asked_as o _ _ _ _
     (λ lacks. pools_unnamed c.args.name.now rows is lacks)
-    (λ request made. subst (λ name. IsMadeBy (Some (name, rows)) request) (sym is) made)
+    (λ request made. subst (λ name. IsRequestOf (Some (name, rows)) request) (sym is) made)
     asked)
     c.pools_asked.ensures
 

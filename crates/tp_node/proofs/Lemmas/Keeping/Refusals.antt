@@ -106,7 +106,7 @@ module _ (A : Type 0) {B : Type 0} (checks : List Check) (e : Refusal) (back : B
   as_before None same = ap pair_of same
   as_before (Some f) same = let it : e ≡ f = cc in ap second_of it
 
-  pub refused_with : AnswersFirst checks (first_of e) → AnswersWith checks back (second_of e)
+  pub refused_with : IsChecked checks (first_of e) → IsCheckedWith checks back (second_of e)
   refused_with answers = as_before (first_refusal checks) answers
 
 -- no message is first on an empty link

@@ -260,8 +260,9 @@ found_none n lines a None is h = h
 found_none n lines a (Some f) is h = cc
 
 -- an equal reply to an equal step
-pub said_as : (old new : Accepted) (s t : Step) (r q : Result Reply Refusal) → s ≡ t → r ≡ q → Answers old s r new → Answers old t q new
-said_as old new s t r q e f h = subst (λ x. Answers old t x new) f (subst (λ x. Answers old x r new) e h)
+pub said_as : (old new : Accepted) (s t : Step) (r q : Result Reply Refusal) → s ≡ t → r ≡ q → AcceptsOrRefuses old s r new
+    → AcceptsOrRefuses old t q new
+said_as old new s t r q e f h = subst (λ x. AcceptsOrRefuses old t x new) f (subst (λ x. AcceptsOrRefuses old x r new) e h)
 
 refused_is : (o : Option Refusal) (asks : Bool) (r : Refusal) → IsRefusedFor o asks r → r ≢ NoMemory → o ≡ Some r
 refused_is None asks r h ample = absurd (ample h.0)
@@ -269,7 +270,8 @@ refused_is (Some f) asks r h ample = ap (λ x. Some x) (sym h)
 
 -- a line that is refused
 pub refused_at : (n : ℕ) (lines : List TraceLine) (l : TraceLine) (a new : Auditor) (k : ℕ) (r : Refusal)
-    → AreTaken n lines a → k ≡ length lines + 3 → Answers a.core (step_in l) (Err r) new.core → r ≢ NoMemory → new.account ≡ a.account
+    → AreTaken n lines a → k ≡ length lines + 3 → AcceptsOrRefuses a.core (step_in l) (Err r) new.core → r ≢ NoMemory
+    → new.account ≡ a.account
     → AreStopped n (l ∷ lines) new k (flaws.Refused r)
 refused_at n lines l a new k r h number said ample same =
     let is : refusal a.core (step_in l) ≡ Some r =
@@ -290,7 +292,7 @@ judged_is None (Some w) e = cc
 judged_is (Some u) None e = cc
 judged_is (Some u) (Some w) e = cc
 
-told_right : (n : ℕ) (past : List Step) (l : TraceLine) (reply : Reply) → reply ≡ reply_to n past (step_in l) → IsTold l reply
+told_right : (n : ℕ) (past : List Step) (l : TraceLine) (reply : Reply) → reply ≡ reply_to n past (step_in l) → Claims l reply
     → IsJustified n past l
 told_right n past (Plain s) reply e told = tt
 told_right n past (Judged o) reply e told = judged_is o (judgement n (present past)) (sym told ∙ e)
@@ -298,7 +300,7 @@ told_right n past (Judged o) reply e told = judged_is o (judgement n (present pa
 -- a sound line
 pub taken_more : (v : Version) (n : ℕ) (lines : List TraceLine) (l : TraceLine) (a new : Auditor) (reply : Reply)
     → AreTaken n lines a → IsWritten v l
-    → Answers a.core (step_in l) (Ok reply) new.core → IsTold l reply
+    → AcceptsOrRefuses a.core (step_in l) (Ok reply) new.core → Claims l reply
     → ((u : Version) (m : ℕ) (past : List Step) → a.account ≡ account m past → IsWritten u l → IsJustified m past l
     → new.account ≡ account m (step_in l ∷ past)) → AreTaken n (l ∷ lines) new
 taken_more v n lines l a new reply h written said told counted =
@@ -314,7 +316,7 @@ taken_more v n lines l a new reply h written said told counted =
 
 -- a judgement line with a wrong claim
 pub unjustified_at : (n : ℕ) (lines : List TraceLine) (l : TraceLine) (a new : Auditor) (k : ℕ) (reply : Reply)
-    → AreTaken n lines a → k ≡ length lines + 3 → Answers a.core (step_in l) (Ok reply) new.core → ¬ IsTold l reply
+    → AreTaken n lines a → k ≡ length lines + 3 → AcceptsOrRefuses a.core (step_in l) (Ok reply) new.core → ¬ Claims l reply
     → new.account ≡ a.account → AreStopped n (l ∷ lines) new k flaws.Unjustified
 unjustified_at n lines (Plain s) a new k reply h number said other same = absurd (other tt)
 unjustified_at n lines (Judged o) a new k reply h number said other same =

@@ -1,6 +1,7 @@
 use Rattle.tp_text.proofs.number.leading_number.Goals.{then-len-eq0-via-then-len-eq0, then-len-eq0-via-else-len-eq0+then-len-gt6}
 use Rattle.tp_text.proofs.number.leading_number.Goals.{then-len-eq0-via-else-len-eq0+else-len-gt6+then-is_padded}
-use Rattle.tp_text.proofs.Readings.{◌≡◌, true, false, refl, arith, HasDigits, none_without, none_where_long, none_where_padded, spells_value}
+use Rattle.tp_text.proofs.Readings.{◌≡◌, true, false, refl, arith, HasDigits, none_without}
+use Rattle.tp_text.proofs.Readings.{none_where_long, none_where_padded, spells_value}
 use Rattle.tp_text.proofs.number.leading_number.Goals as goal
 
 pub returns-then-len-eq0 : goal.returns-then-len-eq0

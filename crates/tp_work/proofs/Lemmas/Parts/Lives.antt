@@ -39,17 +39,17 @@ length-first_moments zero = refl
 length-first_moments (suc k) = ap suc (length-first_moments k)
 
 -- what is shown of a step: it is no stage, and nothing is reopened; or the next stage of its task; or it is refused
-abbrev pub ToldOf : Option (ℕ × ℕ) → Bool → Bool → List ℕ → List ℕ → Type 0
-ToldOf o reopens answer stages new =
+abbrev pub ShowsMoment : Option (ℕ × ℕ) → Bool → Bool → List ℕ → List ℕ → Type 0
+ShowsMoment o reopens answer stages new =
     (o ≡ None → (IsTrue answer ↔ IsFalse reopens) × (new ≡ stages))
     × MatchOption o (Unit {0}) (λ m. (IsTrue answer ↔ ((m.0 < length stages) × (stage stages m.0 ≡ m.1)))
     × (IsTrue answer → new ≡ slice_set stages m.0 (m.1 + 1)))
 
-abbrev pub Told : Step → Bool → List ℕ → List ℕ → Type 0
-Told s answer stages new = ToldOf (moment_of s) (is_reopen s) answer stages new
+abbrev pub ShowsStep : Step → Bool → List ℕ → List ℕ → Type 0
+ShowsStep s answer stages new = ShowsMoment (moment_of s) (is_reopen s) answer stages new
 
 stages-with : (o : Option (ℕ × ℕ)) (reopens : Bool) (past : ℕ → List ℕ) (stages new : List ℕ) (answer : Bool) → IsTrue answer
-    → ToldOf o reopens answer stages new
+    → ShowsMoment o reopens answer stages new
     → ((t : ℕ) → past t ≡ first_moments (stage stages t)) → (t : ℕ) → with_moment t o (past t) ≡ first_moments (stage new t)
 stages-with None reopens past stages new answer is_yes told before t =
     before t ∙ ap (λ ss. first_moments (stage ss t)) (sym (told.0 refl).1)
@@ -69,7 +69,7 @@ stages-with (Some m) reopens past stages new answer is_yes told before t =
           rw (ne_eqb m.0 t other) (before t ∙ ap first_moments (sym at))
     ]
 
-pub stages-next : (s : Step) (past : List Step) (stages new : List ℕ) (answer : Bool) → IsTrue answer → Told s answer stages new
+pub stages-next : (s : Step) (past : List Step) (stages new : List ℕ) (answer : Bool) → IsTrue answer → ShowsStep s answer stages new
     → AreStages past stages → AreStages (s ∷ past) new
 stages-next s past stages new answer is_yes told before =
     stages-with (moment_of s) (is_reopen s) (λ t. moments t past) stages new answer is_yes told before
@@ -94,7 +94,7 @@ next_of_life (a ∷ b ∷ c ∷ newer) k n e =
     omega (arith, long, length-append newer (k ∷ first_moments n))
 
 no_life-with : (o : Option (ℕ × ℕ)) (reopens : Bool) (newer past : ℕ → List ℕ) (stages new : List ℕ) (answer : Bool) → IsFalse answer
-    → ToldOf o reopens answer stages new → IsFalse reopens
+    → ShowsMoment o reopens answer stages new → IsFalse reopens
     → ((t : ℕ) → past t ≡ first_moments (stage stages t)) → ((t : ℕ) → newer t ++ with_moment t o (past t) ≡ life (length stages) t) → ⊥
 no_life-with None reopens newer past stages new answer is_no told on before once = let is_yes = (told.0 refl).0.1 on in cc
 no_life-with (Some m) reopens newer past stages new answer is_no told on before once =
@@ -113,7 +113,7 @@ no_life-with (Some m) reopens newer past stages new answer is_no told on before 
 
 -- After a refused step no life can continue.
 pub no_life_on : (s : Step) (newer : ℕ → List ℕ) (past : List Step) (stages new : List ℕ) (answer : Bool) → IsFalse answer
-    → Told s answer stages new → IsFalse (is_reopen s)
+    → ShowsStep s answer stages new → IsFalse (is_reopen s)
     → AreStages past stages → ((t : ℕ) → newer t ++ moments t (s ∷ past) ≡ life (length stages) t) → ⊥
 no_life_on s newer past stages new answer is_no told on before once =
     no_life-with (moment_of s) (is_reopen s) newer (λ t. moments t past) stages new answer is_no told on before once
@@ -234,7 +234,7 @@ followed-reopened past e stages new sent more messages r followed over same fres
 
 pub followed-on : (past : History) (e : Event) (stages new sent : List ℕ) (messages now : ℕ) (answer : Bool)
     → IsFalse (is_reopen (step_of e)) → IsFollowed past stages sent messages
-    → IsTrue answer → Told (step_of e) answer stages new → length new ≡ length stages
+    → IsTrue answer → ShowsStep (step_of e) answer stages new → length new ≡ length stages
     → now ≡ cond (is_send (step_of e)) (messages + 1) messages → IsFollowed (e ∷ past) new sent now
 followed-on past e stages new sent messages now answer on followed is_yes told same counted =
     record {
@@ -293,7 +293,7 @@ no_life-reopened later past e stages sent messages r followed not_over all =
 
 pub no_life-on : (later past : History) (e : Event) (stages new sent : List ℕ) (messages : ℕ) (answer : Bool)
     → IsFalse (is_reopen (step_of e)) → IsFollowed past stages sent messages
-    → IsFalse answer → Told (step_of e) answer stages new → LivesInEach (length stages) (later ++ e ∷ past) → ⊥
+    → IsFalse answer → ShowsStep (step_of e) answer stages new → LivesInEach (length stages) (later ++ e ∷ past) → ⊥
 no_life-on later past e stages new sent messages answer on followed is_no told all =
     let is = alive_before (length stages) later (e ∷ past) (alive (length stages) (later ++ e ∷ past) all) in
     let now : (t : ℕ) → (newer : List ℕ) × (newer ++ moments t (steps_of (e ∷ present_events past)) ≡ life (length stages) t) =

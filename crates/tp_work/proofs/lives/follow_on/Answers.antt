@@ -1,4 +1,5 @@
-use Rattle.tp_work.proofs.Lemmas.{◌≡◌, ◌∙◌, ◌+◌, IsFalse, IsTrue, cond, refl, sym, subst, step_of, is_reopen, is_send, Told, followed-on}
+use Rattle.tp_work.proofs.Lemmas.{◌≡◌, ◌∙◌, ◌+◌, IsFalse, IsTrue, cond, refl, sym, subst}
+use Rattle.tp_work.proofs.Lemmas.{step_of, is_reopen, is_send, ShowsStep, followed-on}
 use Rattle.tp_work.proofs.Lemmas.{followed-reopened, goes_on_unless, no_life-on, no_life-reopened, sends_not_unless}
 use Rattle.tp_work.proofs.lives.follow_on.Goals as goal
 
@@ -20,7 +21,8 @@ pub returns-in_default : goal.returns-in_default
 returns-in_default c =
     let on : IsFalse (is_reopen c.args.step) = goes_on_unless c.args.step c.in_default.not-Reopen in
     let no_send : IsFalse (is_send c.args.step) = sends_not_unless c.args.step c.in_default.not-Send in
-    let told : Told c.args.step c.follow.result c.args.stages.now c.follow.new.stages = (c.follow.ensures.none, c.follow.ensures.moment) in
+    let told : ShowsStep c.args.step c.follow.result c.args.stages.now c.follow.new.stages =
+    (c.follow.ensures.none, c.follow.ensures.moment) in
     record {
       room = refl;
       followed =
@@ -30,10 +32,10 @@ returns-in_default c =
           followed-on past e c.args.stages.now c.follow.new.stages c.args.sent.now.items c.args.messages.now c.args.messages.now
           c.follow.result
           (subst (λ s. IsFalse (is_reopen s)) (sym is) on) followed is_yes
-          (subst (λ s. Told s c.follow.result c.args.stages.now c.follow.new.stages) (sym is) told) c.follow.auto.stages counted;
+          (subst (λ s. ShowsStep s c.follow.result c.args.stages.now c.follow.new.stages) (sym is) told) c.follow.auto.stages counted;
       no =
           λ is_no later past e is followed all.
           no_life-on later past e c.args.stages.now c.follow.new.stages c.args.sent.now.items c.args.messages.now c.follow.result
           (subst (λ s. IsFalse (is_reopen s)) (sym is) on) followed is_no
-          (subst (λ s. Told s c.follow.result c.args.stages.now c.follow.new.stages) (sym is) told) all;
+          (subst (λ s. ShowsStep s c.follow.result c.args.stages.now c.follow.new.stages) (sym is) told) all;
     }

@@ -1,6 +1,6 @@
 use Rattle.tp_work.proofs.Lemmas.{◌∙◌, ◌<◌, ◌≤◌, ◌≡◌, Err, Ok, sym, ap, subst, arith, inl, length, IfErr-weaker, MAX_STEPS, HistoryFull}
 use Rattle.tp_work.proofs.Lemmas.{Pool, present_events, History, ended_of_over, at_none, fault_weaker, full_refusal, full_refused}
-use Rattle.tp_work.proofs.Lemmas.{not_reopened, refused_by, series_fault, whole-reopened, generations, IsFaultOf, IsWhole, told_of_end}
+use Rattle.tp_work.proofs.Lemmas.{not_reopened, refused_by, series_fault, whole-reopened, generations, IsFaultOf, IsWhole, nodes_announced}
 use Rattle.tp_work.proofs.Lemmas.{IsNotReopened}
 use Rattle.tp_work.proofs.series.reopen.Goals as goal
 
@@ -23,7 +23,7 @@ keep-requires-clause-right g c κs within = c.in-Ok.ensures.right c.args.graph c
 
 pub keep-requires-clause-announced : goal.keep-requires-clause-announced
 keep-requires-clause-announced g c κs within =
-    c.count_told-announced.ensures ∙ ap told_of_end c.deref.ensures.value ∙ c.requires.over.announced
+    c.count_told-announced.ensures ∙ ap nodes_announced c.deref.ensures.value ∙ c.requires.over.announced
 
 pub stopped_for-requires-clause-whole : goal.stopped_for-requires-clause-whole
 stopped_for-requires-clause-whole g c κs within =

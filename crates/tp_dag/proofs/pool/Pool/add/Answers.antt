@@ -1,4 +1,5 @@
-use Rattle.tp_dag.proofs.Lemmas.{common_steps, ◌∙◌, List, map, length, arith, refl, ap, Event, entry_of, both_true, room_same, room_added, fits_more}
+use Rattle.tp_dag.proofs.Lemmas.{common_steps, ◌∙◌, List, map, length, arith, refl, ap, Event}
+use Rattle.tp_dag.proofs.Lemmas.{entry_of, both_true, room_same, room_added, fits_more}
 use Rattle.tp_dag.proofs.Lemmas.{new_task, spawn_may}
 use Rattle.tp_dag.proofs.pool.Pool.add.Goals as goal
 

@@ -10,9 +10,9 @@ pub use Rattle.std.specs.{Prelude.{replicate, is_none, ◌⊎◌, not, OnSome, s
 pub use Rattle.tp_base.specs.{Checks.{first_refusal, Check}, History.Event, declared.Refusal.TheVariants.{TaskKnown, Inactive}}
 pub use Rattle.tp_base.specs.declared.{ids.{MessageId.MessageId, TaskId.TaskId}, refusal.Refusal.{Refusal, TheVariants.WrongLife}}
 pub use Rattle.{tp_base.specs.declared.{refusal.Refusal.TheVariants.NoMemory, step.Step.Step}, tp_graph.specs.declared.feed.Feed.Feed}
-pub use Rattle.tp_board.{proofs.Answering.same_answer, specs.{Calls.{Appends, AnswersFirst, AnswersWith}, Numbers.{event, ShareNumbers}}}
-pub use Rattle.tp_board.specs.{Numbers.{numbers_after, LinkNumbers}, States.{AnswersBy, BoardState, IsAtPiece, full_check, with_event}}
-pub use Rattle.tp_board.specs.{States.with_reserved, Turns.{IsMade, MakesFirst, control_event, ends, may_make, turn_steps}}
+pub use Rattle.tp_board.{proofs.Answering.same_answer, specs.{Calls.{Appends, IsChecked, IsCheckedWith}, Numbers.{event, ShareNumbers}}}
+pub use Rattle.tp_board.specs.{Numbers.{numbers_after, LinkNumbers}, States.{IsCheckedFor, BoardState, IsAtPiece, full_check, with_event}}
+pub use Rattle.tp_board.specs.{States.with_reserved, Turns.{MovesOrEnds, MakesFirst, control_event, ends, may_make, turn_steps}}
 pub use Rattle.{tp_board.specs.declared.turn.Turn.Turn, tp_wave.specs.{Generations.present, Machine.{is_send_to, steps_of}, Steps.any}}
 pub use Rattle.tp_graph.specs.{Carried.{Begun, Carried}, Graphs.TaskGraph, Left.result_of, Link.Line, Values.{IsInput, AreInputs}}
 pub use Rattle.tp_monitor.specs.{Monitors.is_idle, declared.TaskpoolState.TheVariants.{NotReady, Busy, Terminated}}

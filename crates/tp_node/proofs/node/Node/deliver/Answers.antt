@@ -1,4 +1,4 @@
-use Rattle.tp_node.proofs.Lemmas.{◌<◌, subst, rules, Err, AnswersWith, Feed, refused_with, brought_counts, HasBrought, NodeState}
+use Rattle.tp_node.proofs.Lemmas.{◌<◌, subst, rules, Err, IsCheckedWith, Feed, refused_with, brought_counts, HasBrought, NodeState}
 use Rattle.tp_node.specs.Refused.{deliver_checks}
 use Rattle.tp_node.proofs.node.Node.deliver.Goals as goal
 
@@ -14,7 +14,7 @@ put-requires-clause-active g c κs within =
 
 pub returns-in-Err-clause-refusal : goal.returns-in-Err-clause-refusal
 returns-in-Err-clause-refusal g c =
-    subst (λ (f : Feed). AnswersWith {A = Unit {0}}
+    subst (λ (f : Feed). IsCheckedWith {A = Unit {0}}
     (deliver_checks (g.G.Graph.meaning c.args.self.now.graph) c.args.self.now c.args.board.now f) c.args.parcel
     (Err (c.in-Err.refusal, c.args.parcel)))
     c.feed-feed.ensures.same

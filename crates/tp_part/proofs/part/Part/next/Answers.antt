@@ -1,4 +1,5 @@
-use Rattle.tp_part.proofs.Theorems.{◌≡◌, ◌∙◌, Ok, Some, ap, arith, refl, sym, slice_get_within, index_is, holds_next, runs_shown, waits_shown}
+use Rattle.tp_part.proofs.Theorems.{◌≡◌, ◌∙◌, Ok, Some, ap, arith, refl, sym, slice_get_within}
+use Rattle.tp_part.proofs.Theorems.{index_is, holds_next, runs_shown, waits_shown}
 use Rattle.tp_part.proofs.{Theorems.end_shown, part.Part.next.Goals.{in-Run, in-Wait, in-Finished}}
 use Rattle.tp_part.proofs.part.Part.next.Goals as goal
 

@@ -19,7 +19,7 @@ returns-in-Ok-clause-ok c =
     let taken = none_found n lines c.args.self.now c.args.self.now.flaw c.if-is_some.ensures knows in
     found_none _ _ _ c.args.self.now.flaw c.if-is_some.ensures
     (taken_more v n lines c.args.line c.args.self.now _ c.in-Ok.reply taken written
-    (said_as _ _ _ _ _ _ c.step.ensures c.in-Ok.is c.step-answer.ensures.answers) (c.if-is_told.ensures.0 (search rules))
+    (said_as _ _ _ _ _ _ c.step.ensures c.in-Ok.is c.step-answer.ensures.answers) (c.if-claims.ensures.0 (search rules))
     c.with-self.ensures)
 
 pub returns-in-Ok-2-clause-ok : goal.returns-in-Ok-2-clause-ok
@@ -27,4 +27,4 @@ returns-in-Ok-2-clause-ok c =
     λ v n lines knows _ number.
     let taken = none_found n lines c.args.self.now c.args.self.now.flaw c.if-is_some.ensures knows in
     unjustified_at n lines c.args.line c.args.self.now _ c.args.number c.in-Ok.reply taken number
-    (said_as _ _ _ _ _ _ c.step.ensures c.in-Ok.is c.step-answer.ensures.answers) (λ told. search (rules, c.if-is_told.ensures.1 told)) refl
+    (said_as _ _ _ _ _ _ c.step.ensures c.in-Ok.is c.step-answer.ensures.answers) (λ told. search (rules, c.if-claims.ensures.1 told)) refl

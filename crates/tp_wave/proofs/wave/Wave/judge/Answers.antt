@@ -2,13 +2,13 @@ use Rattle.std.proofs.{Common.{◌∙◌, refl, sym, arith, IsTrue, IsFalse, rul
 use Rattle.tp_wave.{proofs.Given.{judged_following, over_after}, specs.{Control.has_ended, Sums.{is_ended, judgement}}}
 use Rattle.tp_wave.proofs.wave.Wave.judge.Goals as goal
 
-pub returns-clause-answer : goal.returns-clause-answer
-returns-clause-answer c = grind (arith, common_steps)
+pub returns-clause-judgement : goal.returns-clause-judgement
+returns-clause-judgement c = grind (arith, common_steps)
 
 pub returns-clause-judged : goal.returns-clause-judged
 returns-clause-judged c = λ n steps f tell.
     let ended : IsTrue (has_ended steps) = grind (arith, common_steps, f.stands.given 0) in
-    returns-clause-answer c ∙ judged_following n steps c.args.self.now f tell ended
+    returns-clause-judgement c ∙ judged_following n steps c.args.self.now f tell ended
 
 pub returns-clause-follows : goal.returns-clause-follows
 returns-clause-follows c = λ n steps f tell.

@@ -18,16 +18,18 @@ pub use Rattle.tp_base.specs.declared.{refusal.Refusal.TheVariants.{Missing, NoM
 pub use Rattle.tp_board.{proofs.Links.length-links_of, specs.{Calls.Appends, Numbers.{first_links, first_numbers, first_shares, links_of}}}
 pub use Rattle.{tp_board.specs.{Numbers.ShareNumbers, States.{BoardState, full_check, with_fault}}, tp_graph.specs.Carried.Begun}
 pub use Rattle.tp_graph.specs.{Found.{HasEachOnce, times}, Graphs.{TaskGraph, IsLawful}, Left.AreResults, Serial.Results}
-pub use Rattle.tp_node.{proofs.Gathering.results_of, specs.{Begins.next_task, Calls.{AnswersWithBoth, Begins, Rests}, Locals.pending_here}}
+pub use Rattle.tp_node.proofs.Gathering.{results_of}
+pub use Rattle.tp_node.specs.{Begins.next_task, Calls.{IsCheckedWithBoth, Begins, Rests}, Locals.pending_here}
 pub use Rattle.tp_node.specs.{Nodes.{NodeState, anew, counted_of}, PoolLinks.PoolLinkState, declared.pool.Pool.Pool}
 pub use Rattle.tp_wave.proofs.Generations.{ended_generations_law, steps-present, present-goes_on, present_run, length-present}
 pub use Rattle.tp_wave.{proofs.{Generations.present-reopened, Given.count-le, Positions.length-steps_of}, specs.Generations.AreRuns}
 pub use Rattle.tp_wave.specs.{Generations.{ended_generations, present, present_events, generation}, Machine.{History, steps_of, pending_at}}
 pub use Rattle.{tp_wave.specs.{Machine.{IsRun, step_of}, Steps.{is_reopen, any, is_send}, Sums.is_ended}, tp_work.specs.Lives.LivesInEach}
 pub use Rattle.tp_work.{proofs.CountedTotals.{count-done, length-once}, specs.Lives.{LivesOnce, generations, sent_in, AreStages, life}}
-pub use Rattle.tp_work.specs.{Lives.{first_moments, moment_of, moments, stage, with_moment, IsFollowed}, Outcomes.{IsAnswer, IsFaultOf}}
+pub use Rattle.tp_work.specs.Lives.{first_moments, moment_of, moments, stage, with_moment, IsFollowed}
+pub use Rattle.tp_work.specs.Outcomes.{IsRefusalForFault, IsFaultOf}
 pub use Rattle.tp_work.specs.Outcomes.{IsUngathered, Lacks, HasEnded, IsFaultBy, IsDoneOnce, IsFault, IsLack, IsOutcome, AreMarks}
 pub use Rattle.tp_work.specs.{Outcomes.is_marked, Places.{IsWhole, AreInOrder, AreOf}, Reports.{IsReport, IsReportOf, AreOfTheRun, IsEnd}}
-pub use Rattle.tp_work.specs.{Reports.{IsGathered, IsOfItsRun, IsOver, told_of_end}, RunQueues.{BeginsEach, RunQueueState, IsRunQueue}}
+pub use Rattle.tp_work.specs.{Reports.{IsGathered, IsOfItsRun, IsOver, nodes_announced}, RunQueues.{BeginsEach, RunQueueState, IsRunQueue}}
 pub use Rattle.tp_work.specs.Series.{IsKept, IsNotReopened, IsRound, IsSeries, IsSeriesFault, IsSeriesLack, with_messages, IsDoneOnceInEach}
 pub use Rattle.tp_work.specs.{Series.StopsAfter, declared.{config.Fault.Fault, gathered.Report.Report, series.{Round.Round, Series.Series}}}

@@ -7,6 +7,6 @@ invariant_of-self-2 g c =
     let works = c.begin_works.new.works in
     let long : vec_len works ≡ length works.items = search rules in
     let few : length works.items ≤ 7 = omega (arith, long, c.begin_works.ensures.few, c.requires.few) in
-    run_queue_turned works.items c.turn_round.new.items.items c.self.inside.node c.begin_works.new.node c.args.board.now
+    run_queue_turned works.items c.reverse_list.new.items.items c.self.inside.node c.begin_works.new.node c.args.board.now
     c.begin_works.new.board
-    c.turn_round.ensures c.begin_works.ensures.begun few
+    c.reverse_list.ensures c.begin_works.ensures.begun few

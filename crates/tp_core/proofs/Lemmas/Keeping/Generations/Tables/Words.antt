@@ -15,7 +15,8 @@ pub use Rattle.tp_base.specs.declared.Step.{Step, TheVariants.{Insert, Supply, B
 pub use Rattle.tp_base.specs.declared.Step.TheVariants.{Done, ActionOpen, ActionClose, Ready, Send, Recv, MessageEnd, Start, Down, Give, Up}
 pub use Rattle.tp_base.specs.declared.{Step.TheVariants.{Judge, Reopen}, Sums.Sums, Table.Table, limits.TheConstants.MAX_MESSAGES}
 pub use Rattle.tp_base.specs.declared.limits.TheConstants.{MAX_STEPS, MAX_NODES}
-pub use Rattle.tp_core.specs.Accepted.{Accepted, refusal, answer, answers, next, after_all, is_no_memory, Answers, AnswersAll, IsAcceptable}
+pub use Rattle.tp_core.specs.Accepted.{Accepted, refusal, answer, answers, next, after_all}
+pub use Rattle.tp_core.specs.Accepted.{is_no_memory, AcceptsOrRefuses, AcceptOrRefuseAll, IsAcceptable}
 pub use Rattle.tp_core.specs.Accepted.{IsRefusedFor, asks_memory, world_of, numbers_in, room_check, with_step, now_of, is_action_beside}
 pub use Rattle.tp_core.specs.{Accepted.{HasRoom, IsInRoom, AreInRoom, is_at_limit, list_length, wave_check}, Settled.settle_room}
 pub use Rattle.tp_core.specs.Taken.{Taken, IsSame, IsPushed}
@@ -30,7 +31,7 @@ pub use Rattle.tp_core.specs.{Laws.{begins, IsOnce, HasSets, JudgedSoon, TwoNumb
 pub use Rattle.tp_core.specs.{NeverEarly.{IsOverFrom, IsNeverEarly, is_begin_of, is_done_of}, NodeSet.has, Pool.{with_life, without, after}}
 pub use Rattle.tp_core.specs.{Pool.{lacking, supplied, opened, closed}, Reached.AcceptedIsNeverEarly, Run.{world, history, node_of}}
 pub use Rattle.tp_core.specs.{Run.{IsLawful, IsLawfulRun}, Settled.{settle_checks, rooms_check, ends_before, IsSettled}, StepChecks.checks}
-pub use Rattle.tp_core.specs.{StepChecks.{refusal_of, is_idle}, ToTheEnd.{FewIfDue, MaySettle, IsTold, IsTaken, GoesOn, AreTaken}}
+pub use Rattle.tp_core.specs.{StepChecks.{refusal_of, is_idle}, ToTheEnd.{FewIfDue, MaySettle, ReportsEnd, IsTaken, GoesOn, AreTaken}}
 pub use Rattle.tp_core.specs.World.{World}
 pub use Rattle.tp_core.specs.World.{Task, all_left, Action, Kind, OfMessage, is_under_way, is_action, is_message, is_open, is_done, is_at}
 pub use Rattle.tp_core.specs.World.{is_unfinished_at, how_many, openings, pending, Opening, Named, is_known_message, life_of, home_of}

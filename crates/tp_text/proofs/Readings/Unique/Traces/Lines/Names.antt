@@ -20,13 +20,13 @@ pub use Rattle.tp_base.specs.declared.{ids.{MessageId.MessageId, NodeId.NodeId},
 pub use Rattle.tp_core.proofs.Lemmas.Keeping.{accepted_never_early, Generations.{never_early, none_where_lawful, lawful_where_none}}
 pub use Rattle.tp_core.proofs.Lemmas.Keeping.Generations.{length-present, runs_are_counted, present-goes_on, present_run}
 pub use Rattle.tp_core.specs.Accepted.{Accepted, answered, next, after_all, refusal, with_step, reply_to, judged, world_of, numbers_at}
-pub use Rattle.tp_core.specs.{Accepted.{no_numbers, Answers, IsRefusedFor, asks_memory, answer, answers}, Generations.AreRuns}
+pub use Rattle.tp_core.specs.{Accepted.{no_numbers, AcceptsOrRefuses, IsRefusedFor, asks_memory, answer, answers}, Generations.AreRuns}
 pub use Rattle.tp_core.specs.{Generations.{history_after, InEach}, NeverEarly.IsOverFrom, World.{World, Action, Message, IsQuiet, is_done}}
 pub use Rattle.tp_core.specs.{World.is_quiet, declared.{NodeNumbers.NodeNumbers, Reply.{Reply, TheVariants.{WaveSums, Over}}}}
 pub use Rattle.tp_core.specs.declared.Reply.TheVariants.{Plain as PlainReply}
 pub use Rattle.tp_text.specs.AuditText.{step_in, steps_in, AreJustified, IsJustified, account, flaw_line, summary, taken}
 pub use Rattle.tp_text.specs.AuditText.{AuditsAreDetermined, HasFlawAt, IsComplaint, IsFlaw, IsSound, IsAuditText, last_judgement}
-pub use Rattle.tp_text.specs.{AuditText.is_insert, Auditing.{AreStopped, AreTaken, IsFound, Knows, IsTold, IsRecounted}}
+pub use Rattle.tp_text.specs.{AuditText.is_insert, Auditing.{AreStopped, AreTaken, IsFound, Knows, Claims, IsRecounted}}
 pub use Rattle.tp_text.specs.{Ended.EndedIsNeverEarly, Following.{HasFollowed, HasNode, MayFollow}, Keywords.keyword_text, Printed.listed}
 pub use Rattle.tp_text.specs.Reading.{syntax_text, AreSoundPart, AreStepsBeforeFault, HasLines, IsSoundTraceOf, LacksHead}
 pub use Rattle.tp_text.specs.{Reading.{ReadingsAreDetermined, TellsLineBehind}, Script.{nodes_line, step_line, IsNodeCount}}

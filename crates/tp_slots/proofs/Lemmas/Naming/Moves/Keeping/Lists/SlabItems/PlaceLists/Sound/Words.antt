@@ -20,7 +20,8 @@ pub use Rattle.tp_slots.specs.Chains.{next_in, item_in, next_at, IsChain, KeepsO
 pub use Rattle.tp_slots.specs.{Commands.{State, start, held, is_listed, is_full, reply_of, after, replies_of}, Content.{Content, IsTaken}}
 pub use Rattle.tp_slots.specs.Content.{IsIdle, held_count, refusal_of_take, with_item, without_item, front, without_front, with_last}
 pub use Rattle.tp_slots.specs.{Content.{IsSound, times, item_at, with_ready, without_next, nothing_held}, Lists.AreChains, Names.name_at}
-pub use Rattle.tp_slots.specs.{Names.{place_of, Agrees, Tells, Told}, RawSlots.{items_in, IsLinked, IsHoused, places_from, raw_content}}
+pub use Rattle.tp_slots.specs.Names.{place_of, Agrees, Tells, Represents}
+pub use Rattle.tp_slots.specs.RawSlots.{items_in, IsLinked, IsHoused, places_from, raw_content}
 pub use Rattle.tp_slots.specs.{RawSlots.{IsCounted, IsRaw}, SlabSlots.{Roomy, EachHolds, IsKept}, declared.blocks.Block.Block}
 pub use Rattle.tp_slots.specs.declared.{cells.At.At, chains.{Chain.Chain, Link.Link, Slot.Slot}, run.Command.TheVariants.{Take, PushReady}}
 pub use Rattle.tp_slots.specs.declared.run.{Command.TheVariants.GiveBack, Reply.TheVariants.{Taken, Refused, Plain, Item, Next}}
