@@ -7,17 +7,18 @@
  *
  * Each core has up to 100 random steps in a generation. Then it is mostly run to its end, and reopened, restarted or closed. Half of
  * the cores keep no list of their steps. In half of the cores the numbers of tasks, actions and messages are spread over 32 bits. The
- * exit status is 1 at the first difference. */
+ * calls end at the first difference, and the case of that call fails. */
 #include "../random.h"
+#include "../violations.h"
 #include "../wrap.h"
 #include "traces.h"
-#include <inttypes.h>
-#include <stdlib.h>
 
 enum { STEPS = 100, FEW = 24, SEVERAL = 4, MANY = 3000 };
 enum count { REFUSED, TAKEN, QUIET, ENDED, REOPENED, RESTARTED, RESERVED, LEFT, NO_MEMORY, SOUND, UNSOUND, COUNTS };
 
-static uint64_t calls, counts[COUNTS];
+static uint64_t most, cores, calls, counts[COUNTS];
+static const char *given_seed = "by default";
+static violations single, several, reading, memory, settling, restarting, reserving, ends, tracing, auditing, lives, closed;
 static gerfmuod_core core;
 static model m;
 static bool is_far, forgets, is_early;
@@ -38,12 +39,17 @@ typedef struct {
     uint32_t maker_kind, maker, kind, a, b, c, generation;
 } call;
 
-static void fail(const char *what, const call *c) {
-    printf("call %" PRIu64 ", %s", calls, what);
-    if (c) printf(": kind %u (%u, %u, %u), generation %u", c->kind, c->a, c->b, c->c, c->generation);
-    if (c && c->is_by) printf(", maker %u %u", c->maker_kind, c->maker);
-    printf(": not as the model says\n");
-    exit(1);
+/* Ends the calls at one that differs from the model. */
+static void end_calls(violations *of, const char *what, const char *step, const char *maker) {
+    end_runs(of, "in call %" PRIu64 ", seed %s, %s%s%s: not as the model says", calls, given_seed, what, step, maker);
+}
+
+/* The same, after a step or none, of a core that may not be open. */
+static void differs(violations *of, const char *what, const call *c) {
+    char step[100] = "", maker[40] = "";
+    if (c) snprintf(step, sizeof step, ": kind %u (%u, %u, %u), generation %u", c->kind, c->a, c->b, c->c, c->generation);
+    if (c && c->is_by) snprintf(maker, sizeof maker, ", maker %u %u", c->maker_kind, c->maker);
+    end_calls(m.is_open ? of : &closed, what, step, maker);
 }
 
 static bool is_same(gerfmuod_step_result x, gerfmuod_step_result y) {
@@ -55,12 +61,12 @@ static bool is_same_pool(gerfmuod_status x, gerfmuod_status y) {
 }
 
 /* Compares the tasks that are left of up to 48 numbers, about half of them below one that is mostly a task's. */
-static void compare_left(const model *as, const call *c) {
+static void compare_left(violations *of, const model *as, const call *c) {
     uint32_t near = as->tasks && below(8) ? as->task[below(as->tasks)].number : UINT32_MAX - below(2);
     uint32_t from = near - (near < FEW ? near : below(FEW)), end = from + below(2 * FEW);
     for (bool is_left = true; is_left;) {
         gerfmuod_left_task got = gerfmuod_core_left(&core, from, end), want = model_left(as, from, end);
-        if (memcmp(&got, &want, sizeof got)) fail("what is left", c);
+        if (memcmp(&got, &want, sizeof got)) differs(of, "what is left", c);
         is_left = got.state != GERFMUOD_LEFT_NONE;
         counts[LEFT] += is_left;
         from = got.number + 1;
@@ -68,13 +74,13 @@ static void compare_left(const model *as, const call *c) {
 }
 
 /* Compares what the calls that read return. */
-static void compare(const model *as, const call *c) {
-    if (!is_same_pool(gerfmuod_core_status(&core), model_status(as))) fail("status", c);
+static void compare(violations *of, const model *as, const call *c) {
+    if (!is_same_pool(gerfmuod_core_status(&core), model_status(as))) differs(of, "status", c);
     for (uint32_t node = 0; node <= as->nodes; node++) {
         gerfmuod_counters got = gerfmuod_core_counters(&core, node), want = model_counters(as, node);
-        if (memcmp(&got, &want, sizeof got)) fail("counters", c);
+        if (memcmp(&got, &want, sizeof got)) differs(of, "counters", c);
     }
-    compare_left(as, c);
+    compare_left(of, as, c);
 }
 
 static gerfmuod_step_result take(const call *c) {
@@ -89,26 +95,27 @@ static gerfmuod_step_result model_take(const call *c) {
 
 static gerfmuod_step_result check(const call *c) {
     static model before;
-    bool refuses = below(8) == 0;
+    bool refuses = below(8) == 0, is_repeated = false;
     calls++;
     if (refuses) before = m, refuse_in = 1 + below(2);
     gerfmuod_step_result want = model_take(c), got = take(c);
     refuse_in = 0;
     if (refuses && got.refused == GERFMUOD_REFUSED_NO_MEMORY) {
-        if (want.refused || got.event || got.number) fail("out of memory", c);
-        compare(&before, c);
+        if (want.refused || got.event || got.number) differs(&memory, "out of memory", c);
+        compare(&memory, &before, c);
         counts[NO_MEMORY]++;
+        is_repeated = true;
         got = take(c);
     }
     if (!is_same(got, want)) {
         printf("refused %u event %u number %u sent %u received %u\n", got.refused, got.event, got.number, got.sent, got.received);
         printf("refused %u event %u number %u sent %u received %u\n", want.refused, want.event, want.number, want.sent, want.received);
-        fail("a step", c);
+        differs(is_repeated ? &memory : &single, "a step", c);
     }
     counts[got.refused ? REFUSED : TAKEN]++;
     counts[QUIET] += got.event == GERFMUOD_EVENT_QUIET;
     counts[ENDED] += got.event == GERFMUOD_EVENT_ENDED;
-    if (refuses || below(16) == 0) compare(&m, c);
+    if (refuses || below(16) == 0) compare(is_repeated ? &memory : &reading, &m, c);
     if (forgets && m.in_flight && below(200) == 0) m.in_flight--;
     if (is_early && m.tasks && below(200) == 0) m.task[below(m.tasks)].life = DONE;
     return got;
@@ -190,9 +197,9 @@ static void random_step(void) {
 }
 
 /* Compares the results of several steps with the model, which takes them one by one. Returns how many were taken. */
-static uint32_t check_results(const gerfmuod_step *events, uint32_t most, const gerfmuod_step_result *answers, bool refuses) {
+static uint32_t check_results(const gerfmuod_step *events, uint32_t tried, const gerfmuod_step_result *answers, bool refuses) {
     static model before;
-    for (uint32_t k = 0; k < most; k++) {
+    for (uint32_t k = 0; k < tried; k++) {
         const gerfmuod_step *e = &events[k];
         before = m;
         gerfmuod_step_result want = model_step(&m, e->kind, e->first, e->second, e->third, e->generation);
@@ -201,20 +208,20 @@ static uint32_t check_results(const gerfmuod_step *events, uint32_t most, const 
             counts[NO_MEMORY]++;
             return k;
         }
-        if (!is_same(answers[k], want)) fail("the result of one of several steps", NULL);
+        if (!is_same(answers[k], want)) differs(&several, "the result of one of several steps", NULL);
         counts[want.refused ? REFUSED : TAKEN]++;
         counts[QUIET] += want.event == GERFMUOD_EVENT_QUIET;
         counts[ENDED] += want.event == GERFMUOD_EVENT_ENDED;
         if (want.refused) return k;
     }
-    return most;
+    return tried;
 }
 
 /* Several steps in one call; the places for their results may be more or fewer. */
 static void random_steps(void) {
     gerfmuod_step events[SEVERAL];
     gerfmuod_step_result answers[SEVERAL], none;
-    uint32_t length = below(SEVERAL + 1), places = below(SEVERAL + 1), most = length < places ? length : places;
+    uint32_t length = below(SEVERAL + 1), places = below(SEVERAL + 1), tried = length < places ? length : places;
     bool refuses = below(8) == 0;
     for (uint32_t k = 0; k < length; k++) {
         call c = any_step();
@@ -226,10 +233,10 @@ static void random_steps(void) {
     refuse_in = refuses ? 1 + below(3) : 0;
     size_t taken = gerfmuod_core_steps(&core, length ? events : NULL, length, places ? answers : NULL, places);
     refuse_in = 0;
-    if (taken != check_results(events, most, answers, refuses)) fail("the number of steps that were taken", NULL);
-    for (size_t k = taken + (taken < most); k < SEVERAL; k++)
-        if (!is_same(answers[k], none)) fail("the results of steps that were not taken", NULL);
-    compare(&m, NULL);
+    if (taken != check_results(events, tried, answers, refuses)) differs(&several, "the number of steps that were taken", NULL);
+    for (size_t k = taken + (taken < tried); k < SEVERAL; k++)
+        if (!is_same(answers[k], none)) differs(&several, "the results of steps that were not taken", NULL);
+    compare(&several, &m, NULL);
 }
 
 /* ---- to the end */
@@ -247,7 +254,7 @@ static void finish(void) {
     while (m.in_flight) step(GERFMUOD_STEP_RECEIVE, m.message[0].to, m.message[0].number, 0, m.generation);
     for (uint32_t k = 0; k < m.tasks; k++) finish_task(k);
     while (m.actions) step(kinds[m.action[0].kind], m.action[0].node, m.action[0].number, 0, m.generation);
-    if (!m.has_ended && !gerfmuod_core_status(&core).is_quiet) fail("not quiet at the end", NULL);
+    if (!m.has_ended && !gerfmuod_core_status(&core).is_quiet) differs(&ends, "not quiet at the end", NULL);
 }
 
 static void settle(void) {
@@ -257,14 +264,14 @@ static void settle(void) {
     gerfmuod_settled got = gerfmuod_core_settle(&core);
     refuse_in = 0;
     if (refuses && got.refused == GERFMUOD_REFUSED_NO_MEMORY) {
-        compare(&m, NULL);
+        compare(&memory, &m, NULL);
         counts[NO_MEMORY]++;
         got = gerfmuod_core_settle(&core);
     }
     gerfmuod_settled want = model_settle(&m);
-    if (memcmp(&got, &want, sizeof got)) fail("settle", NULL);
+    if (memcmp(&got, &want, sizeof got)) differs(&settling, "settle", NULL);
     counts[ENDED] += got.refused == 0;
-    compare(&m, NULL);
+    compare(&settling, &m, NULL);
 }
 
 /* Waves by the steps of the nodes, in a random order. */
@@ -275,9 +282,9 @@ static void waves(void) {
 static void restart(void) {
     uint32_t want = model_restart(&m);
     calls++;
-    if (gerfmuod_core_restart(&core) != want) fail("restart", NULL);
+    if (gerfmuod_core_restart(&core) != want) differs(&restarting, "restart", NULL);
     counts[RESTARTED] += want == 0;
-    compare(&m, NULL);
+    compare(&restarting, &m, NULL);
 }
 
 /* How many steps, tasks or messages to reserve memory for: mostly more than there are, seldom more than there can be. */
@@ -291,13 +298,13 @@ static void reserve(void) {
     uint32_t got = gerfmuod_core_reserve(&core, steps, tasks, messages);
     refuse_in = 0;
     if (refuses && got == GERFMUOD_REFUSED_NO_MEMORY) {
-        compare(&m, NULL);
+        compare(&memory, &m, NULL);
         counts[NO_MEMORY]++;
         got = gerfmuod_core_reserve(&core, steps, tasks, messages);
     }
-    if (got != model_reserve(&m)) fail("reserve", NULL);
+    if (got != model_reserve(&m)) differs(&reserving, "reserve", NULL);
     counts[RESERVED] += got == 0;
-    compare(&m, NULL);
+    compare(&reserving, &m, NULL);
 }
 
 /* ---- traces */
@@ -318,7 +325,7 @@ static void audit(const char *text, size_t length) {
     bool is_same_text = written.length == strlen(want) && !memcmp(got, want, written.length);
     if (is_same_text && written.outcome == (is_sound ? GERFMUOD_WRITTEN : GERFMUOD_COMPLAINT)) return;
     printf("%.*s\naudited as %.*snot as %s", (int)length, text, (int)written.length, got, want);
-    fail("audit", NULL);
+    differs(&auditing, "audit", NULL);
 }
 
 /* Returns the place behind the line that has the byte at a place. */
@@ -354,10 +361,10 @@ static size_t damaged(char *text, size_t length) {
 
 static void audit_trace(void) {
     gerfmuod_written size = gerfmuod_core_trace(&core, NULL, 0);
-    if (!m.is_recorded && size.outcome != GERFMUOD_NO_TEXT) fail("trace of a core without a list", NULL);
+    if (!m.is_recorded && size.outcome != GERFMUOD_NO_TEXT) differs(&tracing, "trace of a core without a list", NULL);
     if (size.outcome == GERFMUOD_NO_TEXT && (is_far || !m.is_recorded)) return;
     char *text = malloc(size.length + 256), *copy = malloc(size.length + 256);
-    if (!text || !copy || gerfmuod_core_trace(&core, text, size.length).outcome) fail("trace", NULL);
+    if (!text || !copy || gerfmuod_core_trace(&core, text, size.length).outcome) differs(&tracing, "trace", NULL);
     audit(text, size.length);
     for (uint32_t k = 0; k < 8 && size.length; k++) {
         size_t length = size.length;
@@ -393,35 +400,73 @@ static bool generation(void) {
 /* Opens a core, with a list of its steps or without. */
 static void open_core(uint32_t nodes, bool is_recorded) {
     uint32_t got = is_recorded ? gerfmuod_core_open(&core, nodes) : gerfmuod_core_open_unrecorded(&core, nodes);
-    if (got != model_open(&m, nodes, is_recorded)) fail("open", NULL);
+    if (got != model_open(&m, nodes, is_recorded)) end_calls(&lives, "open", "", "");
 }
 
-/* Every call on a core that is not open. */
-static void closed(void) {
+/* Makes every call on a core that is not open. */
+static void call_closed(void) {
     char room[8];
     for (uint32_t k = 0; k < 4; k++) random_step(), random_steps();
     settle();
     restart();
     reserve();
-    compare(&m, NULL);
-    if (gerfmuod_core_trace(&core, room, sizeof room).outcome != GERFMUOD_NO_TEXT) fail("trace of a closed core", NULL);
-    if (gerfmuod_core_close(&core) != GERFMUOD_REFUSED_NO_POOL) fail("close of a closed core", NULL);
+    compare(&closed, &m, NULL);
+    if (gerfmuod_core_trace(&core, room, sizeof room).outcome != GERFMUOD_NO_TEXT) differs(&closed, "trace of a closed core", NULL);
+    if (gerfmuod_core_close(&core) != GERFMUOD_REFUSED_NO_POOL) differs(&closed, "close of a closed core", NULL);
+}
+
+static void make_core(void) {
+    uint32_t nodes = below(20) ? 1 + below(8) : below(2) ? 0 : 9 + below(3);
+    is_far = below(2);
+    open_core(nodes, below(2));
+    while (m.is_open && generation()) continue;
+    if (m.is_open && below(4) == 0) audit_trace();
+    if (gerfmuod_core_close(&core) != model_close(&m)) end_calls(&lives, "close", "", "");
+    if (below(4) == 0) call_closed();
+    if (below(16) == 0) memset(&core, (int)below(256), sizeof core), call_closed();
+}
+
+static void make_runs(void) {
+    for (; calls < most; cores++) make_core();
+}
+
+CASE(single_steps_return_what_the_model_says) { check_none(&single); }
+CASE(several_steps_in_one_call_return_what_single_ones_do) { check_none(&several); }
+CASE(a_core_shows_what_the_model_says) { check_none(&reading); }
+CASE(a_call_that_is_out_of_memory_changes_nothing_and_succeeds_again) { check_none(&memory); }
+CASE(reserving_memory_changes_nothing_that_a_call_shows) { check_none(&reserving); }
+CASE(a_core_is_quiet_once_nothing_is_left) { check_none(&ends); }
+CASE(settling_detects_the_end_as_the_model_does) { check_none(&settling); }
+CASE(a_core_restarts_if_the_model_does) { check_none(&restarting); }
+CASE(a_core_has_a_trace_if_it_keeps_its_steps) { check_none(&tracing); }
+CASE(sound_and_damaged_traces_are_audited_as_the_model_says) { check_none(&auditing); }
+CASE(cores_open_and_close_as_the_model_says) { check_none(&lives); }
+CASE(a_core_that_is_not_open_refuses_each_call) { check_none(&closed); }
+
+static int run_cases(void) {
+    const struct CMUnitTest cases[] = {
+        cmocka_unit_test(single_steps_return_what_the_model_says),
+        cmocka_unit_test(several_steps_in_one_call_return_what_single_ones_do),
+        cmocka_unit_test(a_core_shows_what_the_model_says),
+        cmocka_unit_test(a_call_that_is_out_of_memory_changes_nothing_and_succeeds_again),
+        cmocka_unit_test(reserving_memory_changes_nothing_that_a_call_shows),
+        cmocka_unit_test(a_core_is_quiet_once_nothing_is_left),
+        cmocka_unit_test(settling_detects_the_end_as_the_model_does),
+        cmocka_unit_test(a_core_restarts_if_the_model_does),
+        cmocka_unit_test(a_core_has_a_trace_if_it_keeps_its_steps),
+        cmocka_unit_test(sound_and_damaged_traces_are_audited_as_the_model_says),
+        cmocka_unit_test(cores_open_and_close_as_the_model_says),
+        cmocka_unit_test(a_core_that_is_not_open_refuses_each_call),
+    };
+    return RUN(cases);
 }
 
 int main(int argc, char **argv) {
-    uint64_t most = argc > 1 ? strtoull(argv[1], NULL, 10) : 100000, cores = 0;
-    seed = argc > 2 ? strtoull(argv[2], NULL, 10) * 2 + 1 : 88172645463325253u;
+    most = argc > 1 ? strtoull(argv[1], NULL, 10) : 100000;
+    if (argc > 2) given_seed = argv[2], seed = strtoull(given_seed, NULL, 10) * 2 + 1;
     forgets = argc > 3 && argv[3][0] == 'f', is_early = argc > 3 && argv[3][0] == 'e';
-    for (; calls < most; cores++) {
-        uint32_t nodes = below(20) ? 1 + below(8) : below(2) ? 0 : 9 + below(3);
-        is_far = below(2);
-        open_core(nodes, below(2));
-        while (m.is_open && generation()) continue;
-        if (m.is_open && below(4) == 0) audit_trace();
-        if (gerfmuod_core_close(&core) != model_close(&m)) fail("close", NULL);
-        if (below(4) == 0) closed();
-        if (below(16) == 0) memset(&core, (int)below(256), sizeof core), closed();
-    }
+    int failed = run_cases();
+    if (failed) return failed;
     printf("%" PRIu64 " calls on %" PRIu64 " cores, %" PRIu64 " steps taken and %" PRIu64 " refused, ", calls, cores, counts[TAKEN],
            counts[REFUSED]);
     printf("%" PRIu64 " times quiet, %" PRIu64 " ends, %" PRIu64 " reopened, %" PRIu64 " restarted, %" PRIu64 " reserved, %" PRIu64

@@ -7,22 +7,12 @@
  *
  *   out_of_memory [takes|changes|lies|forgets]   takes: opening allocates; changes: a call that is out of memory takes a step;
  *                                                lies: one says so although it has memory; forgets: nothing is reserved. Each
- *                                                has to be detected
- *
- * The exit status is 1 if a check fails. */
+ *                                                has to be detected */
+#include "../cases.h"
 #include "../wrap.h"
 #include <gerfmuod/core.h>
-#include <stdio.h>
-#include <stdlib.h>
-#include <string.h>
 
-#define CHECK(what)                                                                                                    \
-    do {                                                                                                               \
-        if (!(what)) {                                                                                                 \
-            fprintf(stderr, "line %d: call %u, allocation %u: check failed: %s\n", __LINE__, place, failing, #what);   \
-            exit(1);                                                                                                   \
-        }                                                                                                              \
-    } while (0)
+#define CHECK(what) check_that(what, "call %u, allocation %u: check failed: %s", place, failing, #what)
 
 enum { NODES = 3, GENERATIONS = 2, MOST_CALLS = 16384, LARGE = 400, FEWER = 148, SMALL = 60, MOST_BYTES = 1 << 19 };
 /* the calls of a list that are no steps; the last two have the index of a generation */
@@ -185,7 +175,7 @@ static void open_core(void) {
 
 /* Makes all calls with all memory, and keeps their replies. */
 static void first_run(void) {
-    failing = 0;
+    failing = 0, is_lasting = has_failed = false;
     open_core();
     for (; place < count; place++) {
         call *it = &calls[place];
@@ -215,9 +205,7 @@ static void refuse_each(const char *name) {
     CHECK(out > 0);
 }
 
-/* A core that is opened, refused or closed allocates nothing. */
-static void opening(void) {
-    failing = 0;
+CASE(a_core_that_is_opened_refused_or_closed_allocates_nothing) {
     for (uint32_t nodes = 0; nodes <= GERFMUOD_MAX_NODES + 1; nodes++) {
         allocations = 0;
         CHECK(gerfmuod_core_open(&core, nodes) == (nodes >= 1 && nodes <= GERFMUOD_MAX_NODES ? 0u : GERFMUOD_REFUSED_BAD_SPEC));
@@ -227,15 +215,29 @@ static void opening(void) {
     }
 }
 
-int main(int argc, char **argv) {
-    if (argc > 1) fault = argv[1];
-    opening();
+CASE(a_call_that_is_out_of_memory_changes_nothing_and_succeeds_again) {
     make_calls(LARGE, 1);
     refuse_each("small numbers");
-    make_calls(SMALL, 1299709); /* most numbers are above those that are in pages, and have more than six digits */
+}
+
+/* Most numbers are above those that are in pages, and have more than six digits. */
+CASE(a_call_of_large_numbers_that_is_out_of_memory_changes_nothing) {
+    make_calls(SMALL, 1299709);
     refuse_each("large numbers");
+}
+
+CASE(steps_for_which_memory_is_reserved_allocate_nothing) {
     make_reserved_calls();
     refuse_each("reserved");
-    puts("out of memory: as it should be");
-    return 0;
+}
+
+int main(int argc, char **argv) {
+    const struct CMUnitTest cases[] = {
+        cmocka_unit_test(a_core_that_is_opened_refused_or_closed_allocates_nothing),
+        cmocka_unit_test(a_call_that_is_out_of_memory_changes_nothing_and_succeeds_again),
+        cmocka_unit_test(a_call_of_large_numbers_that_is_out_of_memory_changes_nothing),
+        cmocka_unit_test(steps_for_which_memory_is_reserved_allocate_nothing),
+    };
+    if (argc > 1) fault = argv[1];
+    return RUN(cases);
 }

@@ -5,13 +5,13 @@
  *
  * ThreadSanitizer reports the missing mutex as a data race, although the library is compiled without it: see gerfmuod/tsan.h. A call that
  * writes meets one that only reads, and a call that only reads one that writes, so that each has to be reported as what it is. The second
- * thread waits for a counter that orders nothing else, so the calls never overlap, and nothing else is wrong. */
+ * thread waits for a counter that orders nothing else, so the calls never overlap, and nothing else is wrong. Each call is a case, which
+ * fails if there is a race; unlocked, it has to fail. */
+#include "../cases.h"
 #include <gerfmuod/core.h>
 #include <gerfmuod/graph.h>
 #include <gerfmuod/process.h>
 #include <pthread.h>
-#include <stdio.h>
-#include <string.h>
 
 static gerfmuod_core core;
 static gerfmuod_process process;
@@ -23,7 +23,9 @@ static uint32_t missing[1], newest[1];
 static const uint32_t offsets[2];
 static char text[99];
 static pthread_mutex_t lock = PTHREAD_MUTEX_INITIALIZER;
+static bool is_locked;
 static uint32_t calls_made;
+static int races; /* that ThreadSanitizer has reported */
 static volatile uint64_t returned[2]; /* so that no compiler leaves out a read */
 
 /* The name of a call, whether it writes, and its result, which does not matter. */
@@ -90,6 +92,10 @@ static const char *const names[] = {
 #define TEXT(name, writes, expression) #name,
     CALLS(TEXT)
 };
+static const char *const case_names[] = {
+#define CASE_NAME(name, writes, expression) "no_race_of_" #name,
+    CALLS(CASE_NAME)
+};
 static const bool does_write[] = {
 #define WRITES(name, writes, expression) writes,
     CALLS(WRITES)
@@ -97,9 +103,9 @@ static const bool does_write[] = {
 
 static uint64_t make(enum call call) {
     switch (call) {
-#define CASE(name, writes, expression) \
+#define RESULT(name, writes, expression) \
     case name: return expression;
-        CALLS(CASE)
+        CALLS(RESULT)
     case COUNT: break;
     }
     return 0;
@@ -120,29 +126,37 @@ static void *make_other(void *call) {
     return NULL;
 }
 
-static bool try_call(enum call call, bool is_locked) {
+/* ThreadSanitizer calls this at each report. */
+void __tsan_on_report(void *report);
+__attribute__((no_sanitize("thread"))) void __tsan_on_report(void *report) { (void)report, races++; }
+
+static void no_race_of_call(void **state) {
+    enum call *call = *state;
     pthread_t thread;
-    calls_made = 0;
-    if (gerfmuod_core_open(&core, 1) || gerfmuod_process_init(&process, 0, 1)) return false;
-    if (pthread_create(&thread, NULL, make_other, &call)) return false;
+    calls_made = 0, races = 0;
+    assert_int_equal(gerfmuod_core_open(&core, 1), 0);
+    assert_int_equal(gerfmuod_process_init(&process, 0, 1), 0);
+    assert_int_equal(pthread_create(&thread, NULL, make_other, call), 0);
     while (!__atomic_load_n(&calls_made, __ATOMIC_RELAXED)) continue;
     if (is_locked) pthread_mutex_lock(&lock);
-    returned[0] = make(call);
+    returned[0] = make(*call);
     if (is_locked) pthread_mutex_unlock(&lock);
     pthread_join(thread, NULL);
     (void)gerfmuod_core_close(&core);
-    return true;
+    check_that(!races, "%d data races between %s and %s", races, names[*call], names[other_of(*call)]);
 }
 
 int main(int argc, char **argv) {
-    bool is_locked = strcmp(argv[argc - 1], "unlocked") != 0;
-    int tried = 0;
+    int tried = 0, failed = 0;
+    is_locked = strcmp(argv[argc - 1], "unlocked") != 0;
     for (int k = 1; k < argc - !is_locked; k++) {
         enum call call = 0;
         while (call < COUNT && strcmp(names[call], argv[k]) != 0) call++;
-        if (call == COUNT || !try_call(call, is_locked)) return 2;
+        if (call == COUNT) return 2;
+        const struct CMUnitTest cases[] = {{case_names[call], no_race_of_call, NULL, NULL, &call}};
+        failed += RUN(cases);
         tried++;
     }
     printf("%d of %d calls\n", tried, COUNT);
-    return 0;
+    return failed;
 }

@@ -6,14 +6,10 @@
  * The value of a handle is a number. A body reads the handles of its accesses as it begins, and writes them as it ends, and remembers a
  * sum of what it read. A third of the programs runs on turns of threads that this program plays, which begin and end bodies in any order;
  * a third on a team of up to four threads, where a race is one for ThreadSanitizer; a third in up to six parts of up to two threads. Some
- * tasks are added in the run, by a task that is the first one, but not in parts. The exit status is 1 at the first value or sum that
- * differs. */
+ * tasks are added in the run, by a task that is the first one, but not in parts. After the first value or sum that differs, none runs. */
 #include "../random.h"
+#include "../violations.h"
 #include <gerfmuod/parts.h>
-#include <stdbool.h>
-#include <stdio.h>
-#include <stdlib.h>
-#include <string.h>
 
 enum { MOST_TASKS = 48, MOST_HANDLES = 6, MOST_ACCESSES = 4, MOST_THREADS = 4, MOST_PARTS = 6 };
 
@@ -31,7 +27,10 @@ struct state {
 static struct task task[MOST_TASKS];
 static uint32_t tasks, handles, first_later; /* tasks from first_later on are added in the run, by task 0 */
 static struct state expected, found;
+static uint32_t programs, present, all_tasks; /* `present` is the number of the program */
+static const char *given_seed = "by default";
 static char fault;
+static violations played, on_team, in_parts, *way; /* `way` is that of the program */
 
 static uint64_t mix(uint64_t sum, uint64_t value) {
     sum = (sum ^ value) * 0x9e3779b97f4a7c15u;
@@ -68,9 +67,7 @@ static void make_program(void) {
 }
 
 static void need(bool holds, const char *what) {
-    if (holds) return;
-    printf("%s failed\n", what);
-    exit(1);
+    if (!holds) end_runs(way, "in program %u, seed %s: %s failed", present, given_seed, what);
 }
 
 /* ---- turns of threads that are played */
@@ -112,17 +109,20 @@ static void play(void) {
 /* ---- a team */
 static void attach(void *data, uint32_t t) { *(uint32_t *)data = t; }
 
-static void add_to_team(gerfmuod_team *team, uint32_t from, uint32_t to) {
+/* Returns whether the tasks were added and released, each with its number. */
+static bool add_to_team(gerfmuod_team *team, uint32_t from, uint32_t to) {
     for (uint32_t t = from; t < to; t++) {
         uint32_t number = 0, attached = MOST_TASKS;
-        need(!gerfmuod_team_task_on(team, t % 4, task[t].named, task[t].count, t % 2, attach, &attached, &number), "task");
-        need(number == t && attached == t, "the number of a task");
-        if (t % 2) need(!gerfmuod_team_release(team, t), "release");
+        if (gerfmuod_team_task_on(team, t % 4, task[t].named, task[t].count, t % 2, attach, &attached, &number)) return false;
+        if (number != t || attached != t) return false;
+        if (t % 2 && gerfmuod_team_release(team, t)) return false;
     }
+    return true;
 }
 
+/* Stops the run if a task that it adds is refused. */
 static int body(void *context, uint32_t t) {
-    if (t == 0) add_to_team(context, first_later, tasks);
+    if (t == 0 && !add_to_team(context, first_later, tasks)) return 1;
     begin(&found, t), end(&found, t);
     __atomic_fetch_add(&found.ran, 1, __ATOMIC_RELAXED);
     return 0;
@@ -132,7 +132,7 @@ static void run(void) {
     gerfmuod_team *team;
     need(!gerfmuod_team_open(&team), "open");
     for (uint32_t h = 0, number = 1; h < handles; h++) need(!gerfmuod_team_handle(team, &number) && number == h, "handle");
-    add_to_team(team, 0, first_later);
+    need(add_to_team(team, 0, first_later), "task");
     need(!gerfmuod_team_run(team, 1 + below(MOST_THREADS), body, team), "run");
     gerfmuod_team_close(team);
 }
@@ -157,22 +157,38 @@ static void run_in_parts(void) {
     gerfmuod_parts_close(parts);
 }
 
-int main(int argc, char **argv) {
-    uint32_t programs = argc > 1 ? (uint32_t)atoi(argv[1]) : 1000, all = 0;
-    seed = argc > 2 ? strtoull(argv[2], NULL, 10) * 2 + 1 : seed;
-    fault = argc > 3 ? argv[3][0] : 0;
-    for (uint32_t p = 0; p < programs; p++) {
+static bool is_as_expected(void) {
+    if (found.ran != tasks || memcmp(found.values, expected.values, sizeof found.values)) return false;
+    return !memcmp(found.read, expected.read, sizeof found.read);
+}
+
+static void make_runs(void) {
+    static void (*const runs[])(void) = {play, run, run_in_parts};
+    static violations *const ways[] = {&played, &on_team, &in_parts};
+    for (; present < programs; present++) {
+        uint32_t kind = fault ? 0 : present % 3;
+        way = ways[kind];
         make_program();
-        if (p % 3 == 1 && !fault) run();
-        else if (p % 3 == 2 && !fault) run_in_parts();
-        else play();
-        all += tasks;
-        if (found.ran == tasks && !memcmp(found.values, expected.values, sizeof found.values) &&
-            !memcmp(found.read, expected.read, sizeof found.read))
-            continue;
-        printf("program %u differs from the sequential one\n", p);
-        return 1;
+        runs[kind]();
+        all_tasks += tasks;
+        if (!is_as_expected()) end_runs(way, "in program %u, seed %s: it differs from the sequential one", present, given_seed);
     }
-    printf("%u tasks of %u programs, as the sequential programs\n", all, programs);
-    return 0;
+}
+
+CASE(turns_that_come_in_any_order_do_what_the_sequential_program_does) { check_none(&played); }
+CASE(a_team_does_what_the_sequential_program_does) { check_none(&on_team); }
+CASE(parts_do_what_the_sequential_program_does) { check_none(&in_parts); }
+
+int main(int argc, char **argv) {
+    const struct CMUnitTest turns[] = {cmocka_unit_test(turns_that_come_in_any_order_do_what_the_sequential_program_does)};
+    const struct CMUnitTest threads[] = {
+        cmocka_unit_test(a_team_does_what_the_sequential_program_does),
+        cmocka_unit_test(parts_do_what_the_sequential_program_does),
+    };
+    programs = argc > 1 ? (uint32_t)atoi(argv[1]) : 1000;
+    if (argc > 2) given_seed = argv[2], seed = strtoull(given_seed, NULL, 10) * 2 + 1;
+    fault = argc > 3 ? argv[3][0] : 0;
+    int failed = RUN(turns) + (fault ? 0 : RUN(threads));
+    if (!failed) printf("%u tasks of %u programs, as the sequential programs\n", all_tasks, programs);
+    return failed;
 }

@@ -5,18 +5,19 @@
  *
  * Each graph has up to 64 tasks, some of them added in its run. On half of the graphs any calls are made, valid and invalid ones.
  * The others are run by threads that do what a turn returns: those that sleep come back when they are signalled, and sometimes
- * unasked. Such a run comes to its end: whenever no thread can go on, an input from outside is awaited. Many run again. The exit
- * status is 1 at the first difference. */
+ * unasked. Such a run comes to its end: whenever no thread can go on, an input from outside is awaited. Many run again. The calls
+ * end at the first difference, and the case of that call fails. */
 #include "../random.h"
+#include "../violations.h"
 #include "model.h"
-#include <inttypes.h>
-#include <stdio.h>
-#include <stdlib.h>
 
 enum { MOST_THREADS = 6 };
 enum state { AWAY, RUNS, SPINS, SLEEPS, SIGNALLED, LEFT };
 
+static uint32_t graphs;
+static const char *given_seed = "by default";
 static uint64_t calls, refused, ran, waited, signalled, reruns, later;
+static violations adding, turns, outside, lives, reading, closed, endless;
 static gerfmuod_graph graph;
 static model m;
 static char fault; /* the first letter of the model's fault */
@@ -43,18 +44,20 @@ static void signal_threads(uint32_t signals) {
     }
 }
 
-static gerfmuod_graph_result check(const char *call, gerfmuod_graph_result got, expected want) {
+/* Ends the calls at one that differs from the model. */
+static gerfmuod_graph_result check(violations *of, const char *call, gerfmuod_graph_result got, expected want) {
     bool is_run = !want.answer.refused && want.answer.next == GERFMUOD_GRAPH_RUN && want.first;
     bool is_number = is_run ? got.number < m.tasks && want.first >> got.number & 1 : got.number == want.answer.number;
     calls++, refused += want.answer.refused != 0, ran += is_run, signalled += got.signals;
     waited += want.answer.next == GERFMUOD_GRAPH_SPIN || want.answer.next == GERFMUOD_GRAPH_SLEEP;
     signal_threads(got.signals);
     if (got.refused == want.answer.refused && got.next == want.answer.next && is_number && got.signals == want.answer.signals) return got;
-    printf("call %" PRIu64 ", %s: refused %u next %u number %u signals %u, expected %u %u %u or a bit of %" PRIx64 ", %u\n", calls, call,
-           got.refused, got.next, got.number, got.signals, want.answer.refused, want.answer.next, want.answer.number, want.first,
-           want.answer.signals);
-    exit(1);
+    end_runs(of, "in call %" PRIu64 ", seed %s, %s: refused %u next %u number %u signals %u, expected %u %u %u or a bit of %" PRIx64 ", %u",
+             calls, given_seed, call, got.refused, got.next, got.number, got.signals, want.answer.refused, want.answer.next,
+             want.answer.number, want.first, want.answer.signals);
 }
+
+static violations *if_open(violations *of) { return m.is_open ? of : &closed; }
 
 /* Lets the model make its fault. */
 static void spoil(void) {
@@ -67,20 +70,29 @@ static void spoil(void) {
 }
 
 static gerfmuod_graph_result call(uint32_t number, uint32_t first, uint32_t second) {
-    static const char *const names[] = {"close", "start", "turn", "turn_spun", "turn_woken", "stop", "again", "outside", "release",
-                                        "may_record", "fault", "count", "event", "reset", "left", "handle", "no such call"};
+    static const struct {
+        const char *name;
+        violations *of;
+    } kinds[] = {
+        {"close", &lives}, {"start", &lives}, {"turn", &turns}, {"turn_spun", &turns}, {"turn_woken", &turns}, {"stop", &lives},
+        {"again", &lives}, {"outside", &outside}, {"release", &outside}, {"may_record", &reading}, {"fault", &reading},
+        {"count", &reading}, {"event", &reading}, {"reset", &lives}, {"left", &reading}, {"handle", &adding}, {"no such call", &reading},
+    };
+    uint32_t kind = number < 16 ? number : 16;
+    violations *of = if_open(kinds[kind].of);
     if (fault) spoil();
     gerfmuod_graph_result got = gerfmuod_graph_call(&graph, number, first, second);
-    return check(names[number < 16 ? number : 16], got, model_call(&m, number, first, second, got.number));
+    return check(of, kinds[kind].name, got, model_call(&m, number, first, second, got.number));
 }
 
 /* ---- describing */
 static void spawn(void) {
     uint32_t inputs[4], count = below(5), class_ = about(GERFMUOD_GRAPH_CLASSES), before = m.tasks;
-    uint32_t outside = below(8) ? 0 : !is_wild || below(20) ? below(3) : GERFMUOD_GRAPH_MAX_OUTSIDE + below(2);
+    uint32_t awaited = below(8) ? 0 : !is_wild || below(20) ? below(3) : GERFMUOD_GRAPH_MAX_OUTSIDE + below(2);
     if (m.tasks == MOST_TASKS || m.inputs + 4 > MOST_INPUTS) return;
     for (uint32_t k = 0; k < count; k++) inputs[k] = below(32) ? below(m.tasks ? m.tasks : 1) : about(m.tasks);
-    check("spawn", gerfmuod_graph_spawn(&graph, class_, inputs, count, outside), model_spawn(&m, class_, inputs, count, outside));
+    check(if_open(&adding), "spawn", gerfmuod_graph_spawn(&graph, class_, inputs, count, awaited),
+          model_spawn(&m, class_, inputs, count, awaited));
     if (m.is_started) later += m.tasks - before;
 }
 
@@ -95,7 +107,7 @@ static void describe(void) {
         offsets[t + 1] = is_right || below(50) ? count : about(count + 1);
     }
     size_t given = is_right || below(4) ? tasks : below(tasks + 1), lengths = is_right || below(10) ? tasks + 1 : 0;
-    check("describe", gerfmuod_graph_describe(&graph, classes, has_classes ? given : 0, offsets, lengths, inputs, count),
+    check(if_open(&adding), "describe", gerfmuod_graph_describe(&graph, classes, has_classes ? given : 0, offsets, lengths, inputs, count),
           model_describe(&m, classes, has_classes ? given : 0, offsets, lengths, inputs, count));
 }
 
@@ -158,10 +170,7 @@ static void run(void) {
         if (below(3) == 0) make_call();
         uint32_t w = any_thread();
         if (w < threads) turn(w);
-        else if (m.is_started && !all_left() && !release_any()) {
-            printf("call %" PRIu64 ": all threads wait for ever\n", calls);
-            exit(1);
-        }
+        else if (m.is_started && !all_left() && !release_any()) end_runs(&endless, "in call %" PRIu64 ", seed %s", calls, given_seed);
     }
 }
 
@@ -181,26 +190,53 @@ static void make_any_calls(void) {
     }
 }
 
-int main(int argc, char **argv) {
-    uint32_t graphs = argc > 1 ? (uint32_t)atoi(argv[1]) : 20000;
-    seed = argc > 2 ? strtoull(argv[2], NULL, 10) * 2 + 1 : 88172645463325253u;
-    fault = argc > 3 ? argv[3][0] : 0;
+static void make_graph(void) {
+    bool is_traced = below(2);
+    uint32_t processors = below(8);
+    gerfmuod_graph_open(&graph, is_traced, processors);
+    model_open(&m, is_traced, processors);
+    grows = below(2);
+    if (below(2)) describe();
+    else for (uint32_t k = below(MOST_TASKS); k > 0; k--) spawn();
+    if (is_wild) make_any_calls();
+    else run();
+    while (!is_wild && below(2) && !call(below(2) ? GERFMUOD_GRAPH_AGAIN : GERFMUOD_GRAPH_RESET, 0, 0).refused) run(), reruns++;
+    for (uint32_t k = 0; k < 2 * MOST_TASKS + 1; k++) call(GERFMUOD_GRAPH_EVENT, k, 0);
+    call(GERFMUOD_GRAPH_CLOSE, 0, 0);
+    for (uint32_t number = 0; number < 16; number++) call(number, below(2), below(2)); /* it is not open */
+    spawn(), describe();
+}
+
+static void make_runs(void) {
     for (uint32_t g = 0; g < graphs; g++) {
-        bool is_traced = below(2);
-        uint32_t processors = below(8);
-        gerfmuod_graph_open(&graph, is_traced, processors);
-        model_open(&m, is_traced, processors);
-        grows = below(2), is_wild = g % 2;
-        if (below(2)) describe();
-        else for (uint32_t k = below(MOST_TASKS); k > 0; k--) spawn();
-        if (is_wild) make_any_calls();
-        else run();
-        while (!is_wild && below(2) && !call(below(2) ? GERFMUOD_GRAPH_AGAIN : GERFMUOD_GRAPH_RESET, 0, 0).refused) run(), reruns++;
-        for (uint32_t k = 0; k < 2 * MOST_TASKS + 1; k++) call(GERFMUOD_GRAPH_EVENT, k, 0);
-        call(GERFMUOD_GRAPH_CLOSE, 0, 0);
-        for (uint32_t number = 0; number < 16; number++) call(number, below(2), below(2)); /* it is not open */
-        spawn(), describe();
+        is_wild = g % 2;
+        make_graph();
     }
+}
+
+CASE(tasks_are_added_as_the_model_says) { check_none(&adding); }
+CASE(turns_return_what_the_model_says) { check_none(&turns); }
+CASE(inputs_from_outside_are_counted_as_the_model_says) { check_none(&outside); }
+CASE(starts_stops_and_runs_again_are_as_the_model_says) { check_none(&lives); }
+CASE(a_graph_shows_what_the_model_says) { check_none(&reading); }
+CASE(a_graph_that_is_not_open_refuses_each_call) { check_none(&closed); }
+CASE(threads_wait_only_for_inputs_from_outside) { check_none(&endless); }
+
+int main(int argc, char **argv) {
+    const struct CMUnitTest cases[] = {
+        cmocka_unit_test(tasks_are_added_as_the_model_says),
+        cmocka_unit_test(turns_return_what_the_model_says),
+        cmocka_unit_test(inputs_from_outside_are_counted_as_the_model_says),
+        cmocka_unit_test(starts_stops_and_runs_again_are_as_the_model_says),
+        cmocka_unit_test(a_graph_shows_what_the_model_says),
+        cmocka_unit_test(a_graph_that_is_not_open_refuses_each_call),
+        cmocka_unit_test(threads_wait_only_for_inputs_from_outside),
+    };
+    graphs = argc > 1 ? (uint32_t)atoi(argv[1]) : 20000;
+    if (argc > 2) given_seed = argv[2], seed = strtoull(given_seed, NULL, 10) * 2 + 1;
+    fault = argc > 3 ? argv[3][0] : 0;
+    int failed = RUN(cases);
+    if (failed) return failed;
     printf("%" PRIu64 " calls on %u graphs: %" PRIu64 " refused, %" PRIu64 " tasks run, %" PRIu64 " waits, %" PRIu64 " signals, ", calls,
            graphs, refused, ran, waited, signalled);
     printf("%" PRIu64 " graphs run again, %" PRIu64 " tasks added in a run, as the model says\n", reruns, later);

@@ -1,15 +1,15 @@
 /* growth.c: a graph that grows to millions of tasks while it runs. It begins with one task. Each body makes two tasks, of
- * which the second waits for the first, until there are enough. Each task has to run once, and the
- * whole program has to stay within a given memory.
+ * which the second waits for the first, until there are enough.
  *
- *   growth TASKS MEGABYTES THREADS..     megabytes of 1,000,000 bytes; 0 is no limit */
+ *   growth TASKS MEGABYTES THREADS..     megabytes of 1,000,000 bytes, for the whole program; 0 is no limit */
 #define _POSIX_C_SOURCE 200809L
-#include <gerfmuod/team.h>
 #include "../../examples/timing.h"
-#include <stdint.h>
+#include "check.h"
 #include <sys/resource.h>
 
 static gerfmuod_team *team;
+static char **numbers_of_threads; /* up to a NULL */
+static double most_megabytes;
 static uint32_t tasks, made, repeated;
 static uint8_t *has_run; /* of each task */
 
@@ -38,28 +38,42 @@ static double megabytes(void) {
     return (double)usage.ru_maxrss * 1024 / 1e6;
 }
 
+/* Runs a graph to its end. Returns how many of its tasks ran. */
+static uint32_t run(uint32_t threads) {
+    uint32_t ran = 0;
+    has_run = calloc(tasks, 1);
+    assert_non_null(has_run);
+    made = 1, repeated = 0;
+    team = new_team();
+    check_ok("the first task", gerfmuod_team_task(team, 0, NULL, 0, NULL));
+    double from = seconds_now();
+    check_ok("run", gerfmuod_team_run(team, threads, body, NULL));
+    double seconds = seconds_now() - from;
+    gerfmuod_team_close(team);
+    for (uint32_t t = 0; t < tasks; t++) ran += has_run[t];
+    free(has_run);
+    fprintf(stderr, "%u threads: %.0f ns a task, %.0f MB\n", threads, seconds / tasks * 1e9, megabytes());
+    return ran;
+}
+
+CASE(each_task_of_a_graph_that_grows_runs_once) {
+    for (char **number = numbers_of_threads; *number; number++) {
+        uint32_t ran = run((uint32_t)atoi(*number));
+        check_that(ran == tasks && !repeated, "%s threads: %u of %u tasks ran, and %u bodies again", *number, ran, tasks, repeated);
+    }
+}
+
+CASE(a_graph_that_grows_stays_within_its_memory) {
+    check_that(megabytes() <= most_megabytes, "%.0f MB, not %.0f MB at most", megabytes(), most_megabytes);
+}
+
 int main(int argc, char **argv) {
+    const struct CMUnitTest runs[] = {cmocka_unit_test(each_task_of_a_graph_that_grows_runs_once)};
+    const struct CMUnitTest limits[] = {cmocka_unit_test(a_graph_that_grows_stays_within_its_memory)};
     if (argc < 4) return 1;
     tasks = (uint32_t)atol(argv[1]);
-    double most = atof(argv[2]);
+    most_megabytes = atof(argv[2]);
+    numbers_of_threads = argv + 3;
     if (!tasks) return 1;
-    for (int w = 3; w < argc; w++) {
-        uint32_t ran = 0, threads = (uint32_t)atoi(argv[w]);
-        has_run = calloc(tasks, 1);
-        if (!has_run) return 1;
-        made = 1, repeated = 0;
-        need(gerfmuod_team_open(&team), "open");
-        need(gerfmuod_team_task(team, 0, NULL, 0, NULL), "the first task");
-        double from = seconds_now();
-        need(gerfmuod_team_run(team, threads, body, NULL), "run");
-        double seconds = seconds_now() - from;
-        gerfmuod_team_close(team);
-        for (uint32_t t = 0; t < tasks; t++) ran += has_run[t];
-        free(has_run);
-        fprintf(stderr, "%u threads: %.0f ns a task, %.0f MB\n", threads, seconds / tasks * 1e9, megabytes());
-        if (ran != tasks || repeated) return 1;
-    }
-    int is_within = most <= 0 || megabytes() <= most;
-    printf("%u tasks, each ran once%s\n", tasks, is_within ? "" : ", in too much memory");
-    return !is_within;
+    return RUN(runs) + (most_megabytes > 0 ? RUN(limits) : 0);
 }

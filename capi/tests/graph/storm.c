@@ -1,6 +1,6 @@
 /* storm.c: random graphs on random numbers of threads. Each body checks that its inputs are done, that its inputs from outside are
  * there, and that it runs for the first time. Its data has no lock and no atomics, so ThreadSanitizer also checks that the team
- * orders the bodies.
+ * orders the bodies. The rounds end at the first violation, and the case of that guarantee fails.
  *
  *   storm ROUNDS [SEED [early | FOLDER]]     early: threads report tasks as done before they run them; this has to be detected.
  *                                            Else each run writes its trace and its events into FOLDER
@@ -9,16 +9,16 @@
  * Some rounds have a body that fails. One more thread releases the inputs from outside in random order, before the start and
  * after it. Every tenth graph is one task and then tasks that run on all threads at the same time. Of every third graph only
  * the beginning is described: its bodies make the other tasks. Many graphs run again, with gerfmuod_team_again. If the
- * library has gerfmuod_audit, it judges the trace of each run. The exit status is 1 if a check failed, and 124 if a round did not end. */
+ * library has gerfmuod_audit, it judges the trace of each run. The exit status is 124 if a round did not end. */
 #define _POSIX_C_SOURCE 200809L
 #include "../../examples/timing.h"
 #include "../random.h"
+#include "../violations.h"
+#include "check.h"
 #include <gerfmuod/core.h>
-#include <gerfmuod/team.h>
 #include "limit.h"
 #include <pthread.h>
 #include <sched.h>
-#include <string.h>
 
 #pragma weak gerfmuod_audit
 
@@ -34,13 +34,23 @@ static uint8_t classes[MOST];
 static uint32_t offsets[MOST + 1], inputs[MOST * INPUTS];
 static uint32_t releases[MOST * OUTSIDE], release_count; /* the tasks of the inputs from outside, in the order of their release */
 static char has_ended[MOST], awaited[MOST], has_come[MOST];
-static int wrong, unreleased; /* bodies that ran too early or twice, releases that were refused; only written if there are some */
-static uint32_t repeated; /* runs that were not the first of their graph */
-static uint32_t grown;    /* graphs of which bodies made tasks */
+/* What threads find in a run, each only written if there is something: bodies that ran before their inputs, before their inputs from
+ * outside, or twice; that did not run at the same time; tasks and releases that were refused. */
+static int too_early, unawaited, twice, apart, unmade, unreleased;
+static uint32_t rounds, present; /* how many there are, and the number of the present one */
+static uint32_t repeated;        /* runs that were not the first of their graph */
+static uint32_t grown;           /* graphs of which bodies made tasks */
+static const char *given_seed = "by default";
+static violations order, awaiting, once, together, making_tasks, releasing, calls, ends, stops, again_after_growth, traces;
 static bool is_early;
 static const char *folder; /* for the traces and events; NULL if there are none */
 static unsigned written;
 static gerfmuod_team *team;
+
+/* Ends the rounds if a call is refused. */
+static void must(const char *what, uint32_t refused) {
+    if (refused) end_runs(&calls, "in round %u, seed %s: %s: refused %u", present, given_seed, what, refused);
+}
 
 static void clear_run(void) {
     arrived = release_count = 0;
@@ -70,6 +80,7 @@ static void draw_graph(void) {
         for (uint32_t k = t ? below(INPUTS + 1) : 0; k > 0; k--) inputs[offsets[t + 1]++] = t - 1 - below(t < 20 ? t : 20);
     }
     failing = tasks && below(8) == 0 ? below(tasks) : GERFMUOD_GRAPH_NONE;
+    if (is_early) failing = GERFMUOD_GRAPH_NONE;
     draw_releases(true);
 }
 
@@ -87,7 +98,7 @@ static void meet(void) {
     double from = seconds_now();
     __atomic_fetch_add(&arrived, 1, __ATOMIC_RELAXED);
     while (__atomic_load_n(&arrived, __ATOMIC_RELAXED) < meeting && seconds_now() - from < 10) sched_yield();
-    if (seconds_now() - from >= 10) wrong++;
+    if (seconds_now() - from >= 10) apart++;
 }
 
 /* Makes the next tasks of the graph, at least one if there is one. */
@@ -97,7 +108,7 @@ static void make_tasks(uint32_t maker) {
         uint32_t t = made, number = GERFMUOD_GRAPH_NONE, count = offsets[t + 1] - offsets[t], outside = (uint8_t)awaited[t];
         uint32_t refused = gerfmuod_team_spawn(team, classes[t], inputs + offsets[t], count, outside, NULL, NULL, &number);
         if (refused == GERFMUOD_REFUSED_STOPPED) break;
-        if (refused || number != t) wrong++;
+        if (refused || number != t) unmade++;
         __atomic_store_n(&made, t + 1, __ATOMIC_RELEASE);
     }
     pthread_mutex_unlock(&making);
@@ -108,9 +119,10 @@ static int body(void *context, uint32_t task) {
     if (task == failing) return 1;
     if (described < tasks) make_tasks(task);
     if (meeting && task) meet();
-    if (has_ended[task] || has_come[task] != awaited[task]) wrong++;
+    if (has_ended[task]) twice++;
+    if (has_come[task] != awaited[task]) unawaited++;
     for (uint32_t k = offsets[task]; k < offsets[task + 1]; k++)
-        if (!has_ended[inputs[k]]) wrong++;
+        if (!has_ended[inputs[k]]) too_early++;
     if (task % 7 == 0) sched_yield();
     has_ended[task] = 1;
     return 0;
@@ -151,11 +163,11 @@ static void *turns(void *argument) {
 
 static uint32_t run_own_threads(bool is_started_first) {
     pthread_t ids[MOST_THREADS];
-    if (is_started_first) need(gerfmuod_team_start(team, threads), "start");
-    for (uint32_t w = 0; w < threads; w++) need(pthread_create(&ids[w], NULL, turns, NULL) != 0, "pthread_create");
+    if (is_started_first) must("start", gerfmuod_team_start(team, threads));
+    for (uint32_t w = 0; w < threads; w++) check("pthread_create", pthread_create(&ids[w], NULL, turns, NULL) == 0);
     if (!is_started_first) {
-        nanosleep(&(struct timespec){.tv_nsec = 1000000}, NULL); /* lets turns begin */
-        need(gerfmuod_team_start(team, threads), "start");
+        sleep_for(1000000); /* lets turns begin */
+        must("start", gerfmuod_team_start(team, threads));
     }
     for (uint32_t w = 0; w < threads; w++) pthread_join(ids[w], NULL);
     return gerfmuod_team_turn(team, GERFMUOD_GRAPH_NONE).refused;
@@ -172,7 +184,7 @@ static FILE *new_file(const char *ending) {
     char path[4096];
     snprintf(path, sizeof path, "%s/%u.%s", folder, written, ending);
     FILE *file = fopen(path, "w");
-    need(!file, path);
+    check(path, file);
     return file;
 }
 
@@ -180,9 +192,9 @@ static FILE *new_file(const char *ending) {
 static void write_run(const char *trace) {
     if (!folder) return;
     FILE *events = new_file("json"), *steps = new_file("trace");
-    need(gerfmuod_team_profile(team, events), "profile");
+    must("profile", gerfmuod_team_profile(team, events));
     fputs(trace, steps);
-    need(fclose(events) || fclose(steps), folder);
+    check(folder, !fclose(events) && !fclose(steps));
     written++;
 }
 
@@ -199,56 +211,116 @@ static bool is_sound(void) {
     return judged.outcome == GERFMUOD_WRITTEN;
 }
 
-/* Runs the graph. Odd runs are on threads of this program; in every second one of them, turns begin before the start. */
-static bool run_is_well(uint32_t round, uint32_t run) {
-    pthread_t releasing;
-    for (uint32_t i = 0; i < release_count; i++)
-        if (releases[i] < described) need(gerfmuod_team_outside(team, releases[i]), "outside");
-    has_run = false;
-    need(pthread_create(&releasing, NULL, release_all, NULL) != 0, "pthread_create");
-    uint32_t refused = run % 2 || is_early ? run_own_threads(run % 4 == 1) : gerfmuod_team_run(team, threads, body, NULL);
-    __atomic_store_n(&has_run, true, __ATOMIC_RELAXED);
-    pthread_join(releasing, NULL);
-    bool is_well = !wrong && !unreleased && is_sound();
-    if (failing == GERFMUOD_GRAPH_NONE) is_well &= !refused && is_complete();
-    else is_well &= refused == GERFMUOD_REFUSED_STOPPED && gerfmuod_team_failed(team) == failing && !has_ended[failing];
-    if (!is_well)
-        printf("round %u: %u tasks, %u threads: refused %u, %d bodies too early or twice, %d releases refused\n", round, tasks, threads,
-               refused, wrong, unreleased);
-    return is_well;
+/* Counts violations of the present run, if there are some. */
+static void judge(violations *of, int count, uint32_t refused) {
+    count_violations(of, (uint64_t)count, "in round %u, seed %s: %u tasks, %u threads, refused %u", present, given_seed, tasks, threads,
+                     refused);
 }
 
-static bool round_is_well(uint32_t round) {
-    meeting = 0;
-    limit_time();
-    clear_run();
-    if (round % 10 == 0 && !is_early) draw_meeting();
-    else draw_graph();
-    need(gerfmuod_team_open_traced(&team), "open");
-    if (folder) need(gerfmuod_team_record(team, 2 * MOST), "record");
-    described = made = round % 3 == 2 && tasks && !meeting && !is_early ? 1 + below(tasks) : tasks;
-    need(gerfmuod_team_describe(team, described, classes, offsets, inputs, NULL), "describe");
-    bool is_well = run_is_well(round, round);
-    grown += described < tasks;
-    if (is_well && described < tasks && failing == GERFMUOD_GRAPH_NONE) is_well = gerfmuod_team_again(team) == GERFMUOD_REFUSED_WRONG_LIFE;
-    for (uint32_t again = below(3); again > 0 && is_well && failing == GERFMUOD_GRAPH_NONE && described == tasks; again--) {
-        need(gerfmuod_team_again(team), "again");
+/* Judges a run that has ended. Returns whether nothing was violated. */
+static bool judge_run(uint32_t refused) {
+    bool is_whole = failing == GERFMUOD_GRAPH_NONE, is_refused = is_whole && refused, is_partial = is_whole && !is_complete();
+    bool is_stopped = is_whole || (refused == GERFMUOD_REFUSED_STOPPED && gerfmuod_team_failed(team) == failing && !has_ended[failing]);
+    bool is_well = !too_early && !unawaited && !twice && !apart && !unmade && !unreleased;
+    bool has_trace = !is_well || is_sound();
+    judge(&order, too_early, refused);
+    judge(&awaiting, unawaited, refused);
+    judge(&once, twice + is_partial, refused);
+    judge(&together, apart, refused);
+    judge(&making_tasks, unmade, refused);
+    judge(&releasing, unreleased, refused);
+    judge(&ends, is_refused, refused);
+    judge(&stops, !is_stopped, refused);
+    judge(&traces, !has_trace, refused);
+    return is_well && !is_refused && !is_partial && is_stopped && has_trace;
+}
+
+/* Runs the graph. Odd runs are on threads of this program; in every second one of them, turns begin before the start. */
+static bool run_is_well(uint32_t run) {
+    pthread_t releaser;
+    for (uint32_t i = 0; i < release_count; i++)
+        if (releases[i] < described) must("outside", gerfmuod_team_outside(team, releases[i]));
+    has_run = false;
+    check("pthread_create", pthread_create(&releaser, NULL, release_all, NULL) == 0);
+    uint32_t refused = run % 2 || is_early ? run_own_threads(run % 4 == 1) : gerfmuod_team_run(team, threads, body, NULL);
+    __atomic_store_n(&has_run, true, __ATOMIC_RELAXED);
+    pthread_join(releaser, NULL);
+    return judge_run(refused);
+}
+
+/* A graph to which tasks were added in its run does not run again; others do, up to two times. */
+static bool runs_again_well(void) {
+    uint32_t again = below(3);
+    bool is_well = true;
+    if (failing != GERFMUOD_GRAPH_NONE) return true;
+    if (described < tasks) {
+        uint32_t refused = gerfmuod_team_again(team);
+        judge(&again_after_growth, refused != GERFMUOD_REFUSED_WRONG_LIFE, refused);
+        return refused == GERFMUOD_REFUSED_WRONG_LIFE;
+    }
+    for (; again > 0 && is_well; again--) {
+        must("again", gerfmuod_team_again(team));
         clear_run();
         if (!meeting) draw_releases(false);
         threads = meeting ? meeting : 1 + below(MOST_THREADS);
-        is_well = run_is_well(round, below(4)), repeated += is_well;
+        is_well = run_is_well(below(4)), repeated += is_well;
     }
+    return is_well;
+}
+
+static bool round_is_well(void) {
+    meeting = 0;
+    limit_time();
+    clear_run();
+    if (present % 10 == 0 && !is_early) draw_meeting();
+    else draw_graph();
+    must("open", gerfmuod_team_open_traced(&team));
+    if (folder) must("record", gerfmuod_team_record(team, 2 * MOST));
+    described = made = present % 3 == 2 && tasks && !meeting && !is_early ? 1 + below(tasks) : tasks;
+    must("describe", gerfmuod_team_describe(team, described, classes, offsets, inputs, NULL));
+    bool is_well = run_is_well(present);
+    grown += described < tasks;
+    is_well = is_well && runs_again_well();
     gerfmuod_team_close(team);
     return is_well;
 }
 
+static void make_runs(void) {
+    while (present < rounds && round_is_well()) present++;
+}
+
+CASE(each_task_runs_after_its_inputs) { check_none(&order); }
+CASE(each_task_runs_after_its_inputs_from_outside) { check_none(&awaiting); }
+CASE(each_task_runs_once) { check_none(&once); }
+CASE(ready_tasks_run_at_the_same_time) { check_none(&together); }
+CASE(bodies_add_tasks_with_the_next_numbers) { check_none(&making_tasks); }
+CASE(no_release_is_refused) { check_none(&releasing); }
+CASE(no_other_call_is_refused) { check_none(&calls); }
+CASE(a_run_ends_without_a_refusal) { check_none(&ends); }
+CASE(a_body_that_fails_stops_its_run) { check_none(&stops); }
+CASE(a_graph_that_grew_does_not_run_again) { check_none(&again_after_growth); }
+CASE(each_trace_is_sound) { check_none(&traces); }
+
 int main(int argc, char **argv) {
-    uint32_t rounds = argc > 1 ? (uint32_t)atoi(argv[1]) : 100;
-    if (argc > 2) seed = (uint64_t)atoll(argv[2]) * 2 + 1;
+    const struct CMUnitTest cases[] = {
+        cmocka_unit_test(each_task_runs_after_its_inputs),
+        cmocka_unit_test(each_task_runs_after_its_inputs_from_outside),
+        cmocka_unit_test(each_task_runs_once),
+        cmocka_unit_test(ready_tasks_run_at_the_same_time),
+        cmocka_unit_test(bodies_add_tasks_with_the_next_numbers),
+        cmocka_unit_test(no_release_is_refused),
+        cmocka_unit_test(no_other_call_is_refused),
+        cmocka_unit_test(a_run_ends_without_a_refusal),
+        cmocka_unit_test(a_body_that_fails_stops_its_run),
+        cmocka_unit_test(a_graph_that_grew_does_not_run_again),
+        cmocka_unit_test(each_trace_is_sound),
+    };
+    rounds = argc > 1 ? (uint32_t)atoi(argv[1]) : 100;
+    if (argc > 2) given_seed = argv[2], seed = (uint64_t)atoll(given_seed) * 2 + 1;
     is_early = argc > 3 && !strcmp(argv[3], "early");
     folder = argc > 3 && !is_early ? argv[3] : NULL;
-    for (uint32_t round = 0; round < rounds; round++)
-        if (!round_is_well(round)) return 1;
+    int failed = RUN(cases);
+    if (failed) return failed;
     printf("%u rounds, %u repeated, %u graphs grew, each task once and after all that it waits for%s\n", rounds, repeated, grown,
            gerfmuod_audit ? ", each trace sound" : "");
     return 0;

@@ -2,18 +2,13 @@
  *
  *   epochs PROCESSES EPOCHS RUNS [right|unmarked|dropped]
  *
- * Each process reopens at a random time. Checked: when a process learns of the end of an epoch, all processes have come to the
- * epoch, none in it has work, and no message of it is in flight; no message comes after the end of its epoch; no message is
- * refused as LATE; the epochs of two processes differ by at most one; and all processes reach the end of the last epoch.
+ * Each process reopens at a random time. The cases judge all runs. An end is early if a process learns of it before all
+ * processes have come to its epoch, while one in the epoch has work, or while a message of it is in flight.
  *
  * The others are faulty variants, which have to be detected. unmarked: counts a message under its receiver's epoch. dropped:
- * drops messages that are refused as NOT_YET. The exit status is 1 for a wrong end, 2 if a run does not end. */
-#include "../random.h"
+ * drops messages that are refused as NOT_YET. */
+#include "runs.h"
 #include <gerfmuod/process.h>
-#include <inttypes.h>
-#include <stdio.h>
-#include <stdlib.h>
-#include <string.h>
 
 enum { MAX_EPOCHS = 64 };
 
@@ -30,17 +25,22 @@ static gerfmuod_control_message *controls;
 static size_t room, in_flight, controls_in_flight;
 static uint64_t budget[MAX_EPOCHS];
 static uint64_t *known; /* for each process, the number of epochs whose end it knows */
-static uint64_t ends, early, after_the_end, far_apart, late_messages, late_controls, kept;
+static uint64_t ends, late_controls, kept;
+static violations early, after_the_end, far_apart, late_messages, refusals, too_many, silent;
+
+static void must(uint32_t refused) {
+    if (refused) end_runs(&refusals, IN_RUN ": refusal %u", present, seed_of_run(), refused);
+}
 
 static void do_work(uint32_t i) {
     gerfmuod_process *p = &process[i];
     if (!budget[p->epoch] || !below(3)) {
-        if (gerfmuod_process_finish_work(p)) exit(9);
+        must(gerfmuod_process_finish_work(p));
         return;
     }
     budget[p->epoch]--;
     if (below(2)) {
-        if (gerfmuod_process_add_work(p)) exit(9);
+        must(gerfmuod_process_add_work(p));
     } else if (in_flight < room && !gerfmuod_process_count_sent(p)) {
         messages[in_flight].to = below(n);
         messages[in_flight++].epoch = p->epoch;
@@ -52,11 +52,11 @@ static uint32_t message_comes(void) {
     size_t which = below((uint32_t)in_flight);
     uint32_t i = messages[which].to;
     uint32_t refused = gerfmuod_process_count_received(&process[i], is_unmarked ? process[i].epoch : messages[which].epoch);
-    late_messages += refused == GERFMUOD_REFUSED_LATE;
+    judge(&late_messages, refused == GERFMUOD_REFUSED_LATE);
     kept += refused == GERFMUOD_REFUSED_NOT_YET;
     for (uint32_t k = 0; refused == 0 && k < n; k++)
         if (process[k].epoch > process[i].epoch || (process[k].epoch == process[i].epoch && process[k].over)) {
-            after_the_end++;
+            judge(&after_the_end, 1);
             break;
         }
     if (refused == 0 || (is_dropping && refused == GERFMUOD_REFUSED_NOT_YET)) messages[which] = messages[--in_flight];
@@ -85,16 +85,13 @@ static bool is_anything_left(uint64_t epoch) {
 static void ask_detector(uint32_t i) {
     gerfmuod_control_message c;
     if (gerfmuod_process_next(&process[i], &c) == GERFMUOD_PROCESS_SEND) {
-        if (controls_in_flight == room) {
-            fprintf(stderr, "too many control messages in flight\n");
-            exit(9);
-        }
+        if (controls_in_flight == room) end_runs(&too_many, IN_RUN, present, seed_of_run());
         controls[controls_in_flight++] = c;
     }
     if (known[i] <= process[i].epoch && gerfmuod_process_knows_end(&process[i])) {
         known[i] = process[i].epoch + 1;
         ends++;
-        early += is_anything_left(process[i].epoch);
+        judge(&early, is_anything_left(process[i].epoch));
     }
 }
 
@@ -108,7 +105,7 @@ static uint32_t informed(void) {
         if (p->epoch > high) high = p->epoch;
         count += p->epoch + 1 == epochs && p->over && !p->over_left && !p->over_right;
     }
-    far_apart += high > low + 1;
+    judge(&far_apart, high > low + 1);
     return count;
 }
 
@@ -117,7 +114,7 @@ static bool run(void) {
     uint32_t done = 0;
     in_flight = controls_in_flight = 0;
     for (uint32_t i = 0; i < n; i++) {
-        if (gerfmuod_process_init(&process[i], i, n)) exit(9);
+        must(gerfmuod_process_init(&process[i], i, n));
         known[i] = 0;
     }
     for (uint32_t e = 0; e < epochs; e++) budget[e] = 16ull * n;
@@ -130,7 +127,8 @@ static bool run(void) {
         } else if (what < 7) {
             if (controls_in_flight) i = control_comes();
         } else if (process[i].epoch + 1 < epochs && !below(4)) {
-            if (gerfmuod_process_reopen(&process[i]) > GERFMUOD_REFUSED_NOT_ENDED) exit(9);
+            uint32_t refused = gerfmuod_process_reopen(&process[i]);
+            if (refused != GERFMUOD_REFUSED_NOT_ENDED) must(refused);
         }
         ask_detector(i);
         ask_detector(0);
@@ -139,8 +137,30 @@ static bool run(void) {
     return done == n;
 }
 
+static void make_run(void) { judge(&silent, !run()); }
+
+CASE(no_process_learns_of_an_end_early) { check_none(&early); }
+CASE(no_message_comes_after_the_end_of_its_epoch) { check_none(&after_the_end); }
+CASE(the_epochs_of_processes_differ_by_at_most_one) { check_none(&far_apart); }
+CASE(no_message_is_refused_as_late) { check_none(&late_messages); }
+CASE(no_other_call_is_refused) { check_none(&refusals); }
+CASE(control_messages_do_not_pile_up) { check_none(&too_many); }
+CASE(all_processes_learn_of_the_last_end) { check_none(&silent); }
+
+static int run_cases(void) {
+    const struct CMUnitTest cases[] = {
+        cmocka_unit_test(no_process_learns_of_an_end_early),
+        cmocka_unit_test(no_message_comes_after_the_end_of_its_epoch),
+        cmocka_unit_test(the_epochs_of_processes_differ_by_at_most_one),
+        cmocka_unit_test(no_message_is_refused_as_late),
+        cmocka_unit_test(no_other_call_is_refused),
+        cmocka_unit_test(control_messages_do_not_pile_up),
+        cmocka_unit_test(all_processes_learn_of_the_last_end),
+    };
+    return RUN(cases);
+}
+
 int main(int argc, char **argv) {
-    uint64_t runs, silent = 0;
     n = argc > 1 ? (uint32_t)strtoul(argv[1], NULL, 10) : 3;
     epochs = argc > 2 ? (uint32_t)strtoul(argv[2], NULL, 10) : 4;
     runs = argc > 3 ? strtoull(argv[3], NULL, 10) : 10;
@@ -157,15 +177,12 @@ int main(int argc, char **argv) {
     messages = malloc(room * sizeof *messages);
     controls = malloc(room * sizeof *controls);
     if (!process || !known || !messages || !controls) return 9;
-    for (uint64_t r = 0; r < runs; r++) {
-        seed = 0x9e3779b97f4a7c15u * (r + 1);
-        silent += !run();
-    }
+    int failed = run_cases();
     printf("%s: %" PRIu32 " processes, %" PRIu32 " epochs, %" PRIu64 " runs, %" PRIu64 " ends: %" PRIu64 " EARLY, %" PRIu64
-           " receipts after the end, %" PRIu64 " times too far apart, %" PRIu64 " messages LATE, %" PRIu64 " control messages LATE, %" PRIu64
-           " times NOT_YET, %" PRIu64 " SILENT\n",
-           how, n, epochs, runs, ends, early, after_the_end, far_apart, late_messages, late_controls, kept, silent);
+           " receipts after the end, %" PRIu64 " times too far apart, %" PRIu64 " messages LATE, %" PRIu64
+           " control messages LATE, %" PRIu64 " times NOT_YET, %" PRIu64 " SILENT\n",
+           how, n, epochs, runs, ends, early.count, after_the_end.count, far_apart.count, late_messages.count, late_controls, kept,
+           silent.count);
     free(process), free(known), free(messages), free(controls);
-    if (early || after_the_end || far_apart || late_messages) return 1;
-    return silent ? 2 : 0;
+    return failed;
 }

@@ -3,22 +3,14 @@
  *   storm PROCESSES RUNS [right|fifo|lossy|late|early|uncounted|twice]
  *
  * Each run is a random program. A process with work adds work, sends messages or finishes a piece of work. The program
- * counts the open work and the messages in flight independently of the detector, and checks:
- *   - no process learns of the end before there is no work and no message in flight (exit status 1: EARLY);
- *   - all processes learn of the end, if nothing was lost (2: SILENT);
- *   - then exactly (2 waves + 1)(n - 1) control messages were sent, and at most 2 waves started after the last work (3);
- *   - the detector refused no call of the program (4).
+ * counts the open work and the messages in flight independently of the detector. The cases judge all runs.
  *
  * right: control messages come in any order, and one in four comes again. fifo: the oldest comes first, once. lossy: one in
  * 64 control messages and one in 256 messages is lost, so a run may be silent, but not early.
- * The others are faulty variants, which show that the checks can fail. late: counts a receipt only when its work is done.
+ * The others are faulty variants, which show that the cases can fail. late: counts a receipt only when its work is done.
  * early: closes the work of a message when it comes. uncounted: does not count what it sends. twice: counts receipts twice. */
-#include "../random.h"
+#include "runs.h"
 #include <gerfmuod/process.h>
-#include <inttypes.h>
-#include <stdio.h>
-#include <stdlib.h>
-#include <string.h>
 
 enum mode { RIGHT, FIFO, LOSSY, LATE, EARLY, UNCOUNTED, TWICE, MODES };
 static const char *const NAMES[MODES] = {"right", "fifo", "lossy", "late", "early", "uncounted", "twice"};
@@ -42,6 +34,10 @@ static size_t messages, message_room;
 static uint64_t all_work, lost, controls_sent, refused, budget, quiet_wave;
 static uint32_t informed;
 static bool is_quiet, was_early;
+
+/* of all runs */
+static uint64_t waves, sent, most_after;
+static violations early, silent, miscounted, too_many_waves, refusals;
 
 static void *grown(void *old, size_t bytes) {
     void *room = realloc(old, bytes);
@@ -154,7 +150,7 @@ static uint32_t control_comes(void) {
 /* Runs until all know the end, or up to a number of events. Returns whether all know it. */
 static bool run(uint64_t events) {
     head = tail = messages = 0;
-    lost = controls_sent = quiet_wave = 0;
+    lost = controls_sent = refused = quiet_wave = 0;
     informed = 0;
     is_quiet = was_early = false;
     budget = (n > 4096 ? 4ul : 64ul) * n;
@@ -187,10 +183,41 @@ static bool run(uint64_t events) {
     return informed == n;
 }
 
+static void make_run(void) {
+    bool is_told = run(mode == RIGHT || mode == FIFO ? 8000ull * n + 100000 : 1000ull * n + 20000);
+    uint64_t last = gerfmuod_process_wave(&process[0]), after = is_quiet ? last - quiet_wave : 0;
+    judge(&early, was_early);
+    judge(&silent, !is_told);
+    judge(&miscounted, is_told && controls_sent != (2 * last + 1) * (n - 1));
+    judge(&too_many_waves, is_told && after > 2);
+    judge(&refusals, refused);
+    if (is_told && after > most_after) most_after = after;
+    waves += last;
+    sent += controls_sent;
+}
+
+CASE(no_process_learns_of_the_end_early) { check_none(&early); }
+CASE(no_call_is_refused) { check_none(&refusals); }
+CASE(all_processes_learn_of_the_end) { check_none(&silent); }
+CASE(each_link_has_two_control_messages_a_wave_and_one_of_the_end) { check_none(&miscounted); }
+CASE(at_most_two_waves_begin_after_the_last_work) { check_none(&too_many_waves); }
+
+static int run_cases(void) {
+    const struct CMUnitTest always[] = {
+        cmocka_unit_test(no_process_learns_of_the_end_early),
+        cmocka_unit_test(no_call_is_refused),
+    };
+    const struct CMUnitTest if_none_is_lost[] = {
+        cmocka_unit_test(all_processes_learn_of_the_end),
+        cmocka_unit_test(each_link_has_two_control_messages_a_wave_and_one_of_the_end),
+        cmocka_unit_test(at_most_two_waves_begin_after_the_last_work),
+    };
+    return RUN(always) + (mode == LOSSY ? 0 : RUN(if_none_is_lost));
+}
+
 int main(int argc, char **argv) {
     n = argc > 1 ? (uint32_t)strtoul(argv[1], NULL, 10) : 8;
-    uint64_t runs = argc > 2 ? strtoull(argv[2], NULL, 10) : 20, waves = 0, sent = 0, silent = 0, wrong_counts = 0, early = 0;
-    uint64_t most_after = 0;
+    runs = argc > 2 ? strtoull(argv[2], NULL, 10) : 20;
     while (argc > 3 && mode < MODES && strcmp(argv[3], NAMES[mode])) mode++;
     if (!n || n > 1u << 20 || mode == MODES) {
         fprintf(stderr, "usage: storm PROCESSES RUNS [right|fifo|lossy|late|early|uncounted|twice], 1 to %u processes\n", 1u << 20);
@@ -203,23 +230,10 @@ int main(int argc, char **argv) {
     unreported = grown(NULL, n * sizeof *unreported);
     knows = grown(NULL, n * sizeof *knows);
     has_ended = grown(NULL, n * sizeof *has_ended);
-    for (uint64_t r = 0; r < runs; r++) {
-        seed = 0x9e3779b97f4a7c15u * (r + 1);
-        bool is_told = run(mode == RIGHT || mode == FIFO ? 8000ull * n + 100000 : 1000ull * n + 20000);
-        uint64_t last = gerfmuod_process_wave(&process[0]), after = is_quiet ? last - quiet_wave : 0;
-        early += was_early;
-        silent += !is_told;
-        wrong_counts += is_told && (controls_sent != (2 * last + 1) * (n - 1) || after > 2);
-        if (is_told && after > most_after) most_after = after;
-        waves += last;
-        sent += controls_sent;
-    }
+    int failed = run_cases();
     printf("%s: %" PRIu32 " processes, %" PRIu64 " runs, %" PRIu64 " waves, %" PRIu64 " control messages, at most %" PRIu64
            " waves after the end: %" PRIu64 " EARLY, %" PRIu64 " SILENT, %" PRIu64 " counted wrongly, %" PRIu64 " calls refused\n",
-           NAMES[mode], n, runs, waves, sent, most_after, early, silent, wrong_counts, refused);
+           NAMES[mode], n, runs, waves, sent, most_after, early.count, silent.count, miscounted.count, refusals.count);
     free(process), free(work), free(active), free(place), free(unreported), free(knows), free(has_ended), free(control), free(message);
-    if (early) return 1;
-    if (silent && mode != LOSSY) return 2;
-    if (wrong_counts && mode != LOSSY) return 3;
-    return refused ? 4 : 0;
+    return failed;
 }

@@ -3,19 +3,14 @@
  *
  *   tasks PROCESSES EPOCHS RUNS [right|early|twice|forgets]
  *
- * A process makes calls at random, also such as are refused. Checked after each: what it returned, the counts and the work of the process
- * (exit status 1: WRONG); when a process learns of the end of an epoch, that no task of it waits, runs, is due or is in flight, and no
- * opening is open (2: EARLY); that all processes learn of the end of the last epoch (3: SILENT), and that all tasks are done or dropped
- * then (4: LOST).
+ * A process makes calls at random, also such as are refused. After each, what it returned, the counts and the work of the process are
+ * compared. The cases judge all runs. An end is early if a process learns of it while a task of the epoch waits, runs, is due or is in
+ * flight, or while an opening is open.
  *
- * The others are faulty variants, which show that the checks can fail. early: reports a task as done while the model still runs it.
+ * The others are faulty variants, which show that the cases can fail. early: reports a task as done while the model still runs it.
  * twice: receives a message twice. forgets: never calls gerfmuod_tasks_settle. */
-#include "../random.h"
+#include "runs.h"
 #include <gerfmuod/process.h>
-#include <inttypes.h>
-#include <stdio.h>
-#include <stdlib.h>
-#include <string.h>
 
 enum { MAX_PROCESSES = 64, MAX_EPOCHS = 16, TASKS_EACH = 12, CONTROLS = 4096 };
 enum mode { RIGHT, EARLY, TWICE, FORGETS, MODES };
@@ -35,12 +30,13 @@ static gerfmuod_process process[MAX_PROCESSES];
 static gerfmuod_tasks tasks[MAX_PROCESSES];
 static gerfmuod_control_message controls[CONTROLS];
 static uint32_t controls_count, refused, makings;
+static violations wrong, early, late, too_many, silent, lost;
 
 /* the second model */
 static task all[MAX_PROCESSES * MAX_EPOCHS * TASKS_EACH];
 static uint32_t all_count, left[MAX_EPOCHS]; /* the tasks that may still be made in an epoch */
 static bool is_open[MAX_PROCESSES], has_work[MAX_PROCESSES], knows[MAX_PROCESSES], has_ended[MAX_PROCESSES];
-static uint64_t sent[MAX_PROCESSES], received[MAX_PROCESSES], wrong, early, lost;
+static uint64_t sent[MAX_PROCESSES], received[MAX_PROCESSES];
 
 static uint32_t count(enum place place, uint32_t i) {
     uint32_t found = 0;
@@ -63,7 +59,8 @@ static void compare(uint32_t i, uint32_t got, uint32_t wanted) {
     bool is_same = got == wanted && gerfmuod_tasks_waiting(t) == count(WAITS, i) && gerfmuod_tasks_running(t) == count(RUNS, i);
     is_same &= gerfmuod_tasks_due(t) == count(IS_DUE, i) && gerfmuod_tasks_is_opening(t) == is_open[i];
     is_same &= gerfmuod_tasks_is_idle(t) == model_is_idle(i) && process[i].pending == has_work[i];
-    wrong += !(is_same && process[i].sent == sent[i] && process[i].received == received[i]);
+    is_same &= process[i].sent == sent[i] && process[i].received == received[i];
+    count_violations(&wrong, !is_same, IN_RUN ": process %u: returned %u, not %u, or other counts", present, seed_of_run(), i, got, wanted);
     refused += got > 100;
 }
 
@@ -99,7 +96,7 @@ static void message_comes(uint32_t i) {
     uint32_t got = gerfmuod_tasks_receive(&tasks[i], &process[i], t->epoch);
     if (mode == TWICE) got |= gerfmuod_tasks_receive(&tasks[i], &process[i], t->epoch);
     if (t->epoch == epoch) t->place = WAITS, has_work[i] = true, received[i]++, compare(i, got, GERFMUOD_OK);
-    else compare(i, got, t->epoch > epoch ? GERFMUOD_REFUSED_NOT_YET : GERFMUOD_REFUSED_LATE), lost += t->epoch < epoch;
+    else compare(i, got, t->epoch > epoch ? GERFMUOD_REFUSED_NOT_YET : GERFMUOD_REFUSED_LATE), judge(&late, t->epoch < epoch);
 }
 
 static void drop(uint32_t i) {
@@ -149,9 +146,9 @@ static bool is_anything_left(uint64_t epoch) {
 static void ask_detector(uint32_t i) {
     uint32_t next = gerfmuod_process_next(&process[i], &controls[controls_count]);
     controls_count += next == GERFMUOD_PROCESS_SEND;
-    if (controls_count == CONTROLS) exit(9);
+    if (controls_count == CONTROLS) end_runs(&too_many, IN_RUN, present, seed_of_run());
     has_ended[i] |= next == GERFMUOD_PROCESS_ENDED;
-    if (!knows[i] && gerfmuod_process_knows_end(&process[i])) knows[i] = true, early += is_anything_left(process[i].epoch);
+    if (!knows[i] && gerfmuod_process_knows_end(&process[i])) knows[i] = true, judge(&early, is_anything_left(process[i].epoch));
 }
 
 /* Makes a call at a process. */
@@ -174,10 +171,10 @@ static bool run(void) {
     all_count = controls_count = 0;
     for (uint32_t e = 0; e < epochs; e++) left[e] = TASKS_EACH * n;
     for (uint32_t i = 0; i < n; i++) {
-        if (gerfmuod_process_init(&process[i], i, n)) exit(9);
+        uint32_t got = gerfmuod_process_init(&process[i], i, n);
         gerfmuod_tasks_open(&tasks[i]);
         is_open[i] = has_work[i] = true, knows[i] = has_ended[i] = false, sent[i] = received[i] = 0;
-        compare(i, 0, 0);
+        compare(i, got, GERFMUOD_OK);
     }
     for (uint64_t events = 4000ull * n * epochs; events-- && done < n;) {
         uint32_t i = below(n);
@@ -188,24 +185,36 @@ static bool run(void) {
         done = 0;
         for (uint32_t k = 0; k < n; k++) done += process[k].epoch + 1 == epochs && has_ended[k];
     }
-    for (uint32_t t = 0; done == n && t < all_count; t++) lost += all[t].place < IS_DONE;
+    for (uint32_t t = 0; done == n && t < all_count; t++) judge(&lost, all[t].place < IS_DONE);
     return done == n;
 }
 
+static void make_run(void) { judge(&silent, !run()); }
+
+CASE(each_call_returns_and_counts_what_the_model_says) { check_none(&wrong); }
+CASE(no_process_learns_of_an_end_early) { check_none(&early); }
+CASE(no_task_comes_after_the_end_of_its_epoch) { check_none(&late); }
+CASE(control_messages_do_not_pile_up) { check_none(&too_many); }
+CASE(all_processes_learn_of_the_last_end) { check_none(&silent); }
+CASE(each_task_is_done_or_dropped_at_the_last_end) { check_none(&lost); }
+
 int main(int argc, char **argv) {
-    uint64_t silent = 0;
+    const struct CMUnitTest cases[] = {
+        cmocka_unit_test(each_call_returns_and_counts_what_the_model_says),
+        cmocka_unit_test(no_process_learns_of_an_end_early),
+        cmocka_unit_test(no_task_comes_after_the_end_of_its_epoch),
+        cmocka_unit_test(control_messages_do_not_pile_up),
+        cmocka_unit_test(all_processes_learn_of_the_last_end),
+        cmocka_unit_test(each_task_is_done_or_dropped_at_the_last_end),
+    };
     n = argc > 1 ? (uint32_t)strtoul(argv[1], NULL, 10) : 3;
     epochs = argc > 2 ? (uint32_t)strtoul(argv[2], NULL, 10) : 3;
-    uint64_t runs = argc > 3 ? strtoull(argv[3], NULL, 10) : 10;
+    runs = argc > 3 ? strtoull(argv[3], NULL, 10) : 10;
     while (argc > 4 && mode < MODES && strcmp(argv[4], NAMES[mode])) mode++;
     if (!n || n > MAX_PROCESSES || !epochs || epochs > MAX_EPOCHS || mode == MODES) return 9;
-    for (uint64_t r = 0; r < runs; r++) {
-        seed = 0x9e3779b97f4a7c15u * (r + 1);
-        silent += !run();
-    }
+    int failed = RUN(cases);
     printf("%s: %" PRIu32 " processes, %" PRIu32 " epochs, %" PRIu64 " runs, %" PRIu32 " tasks, %" PRIu32 " calls refused: %" PRIu64
            " WRONG, %" PRIu64 " EARLY, %" PRIu64 " SILENT, %" PRIu64 " LOST\n",
-           NAMES[mode], n, epochs, runs, makings, refused, wrong, early, silent, lost);
-    if (wrong) return 1;
-    return early ? 2 : silent ? 3 : lost ? 4 : 0;
+           NAMES[mode], n, epochs, runs, makings, refused, wrong.count, early.count, silent.count, late.count + lost.count);
+    return failed;
 }

@@ -13,7 +13,7 @@ CPP = ["g++", "-std=c++17", "-O2"]
 # the package that a program needs besides its compiler
 NEEDED = {
     "-ltbb": "oneTBB (Debian's libtbb-dev)", "-fopenmp": "OpenMP (GCC's libgomp)", "-lopenblas": "OpenBLAS (libopenblas-dev)",
-    "-DHAVE_STARPU": "StarPU (libstarpu-dev)", "-lscalapack-openmpi": "ScaLAPACK (libscalapack-openmpi-dev)",
+    "-DHAVE_STARPU": "StarPU (libstarpu-dev)", "-lscalapack-openmpi": "ScaLAPACK (libscalapack-openmpi-dev)", "-lcmocka": "libcmocka-dev",
 }
 
 
@@ -44,9 +44,9 @@ class Peers:
     def depend(self, name):
         return self.program(name, (*CPP, "-fopenmp"), f"{name}.cpp")
 
-    def over_library(self, name, source=""):
+    def over_library(self, name, source="", *libraries):
         compiler = ("gcc", "-std=c11", "-O2", f"-I{TOP}/capi/include")
-        return self.program(name, compiler, source or f"{name}.c", (f"-L{TOP}/lib", "-lgerfmuod", "-pthread"))
+        return self.program(name, compiler, source or f"{name}.c", (f"-L{TOP}/lib", "-lgerfmuod", "-pthread", *libraries))
 
     @property
     def measure(self):

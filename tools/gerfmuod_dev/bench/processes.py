@@ -163,7 +163,7 @@ def simulated(program, sizes):
 
 
 def storms(program, sizes):
-    for processes in sizes:
+    for processes in sizes if program else ():
         print_case(f"random programs, {processes:,} processes")
         waves, messages, _ = numbers_in(output_of([program, str(processes), "1"]), STORM)
         yield row("random programs", "proved", processes=processes, control_messages=messages, waves=waves)
@@ -181,6 +181,6 @@ def measure(bench):
         yield from costs(bench, 1_000 if quick else 100_000, 3 if quick else 9)
         yield from patterns(bench, ITERATIONS[3::2] if quick else ITERATIONS, 2 if quick else 5, 3 if quick else 10)
     yield from calls(bench, program, bench.rounds, 1_000_000 if quick else 10_000_000)
-    sizes = SIMULATED[:6] if quick else SIMULATED
-    yield from simulated(program, sizes)
-    yield from storms(bench.peers.over_library("storm", "../../capi/tests/process/storm.c"), sizes[:-1:2] if quick else sizes[::2])
+    yield from simulated(program, sizes := SIMULATED[:6] if quick else SIMULATED)
+    storm = bench.peers.over_library("storm", "../../capi/tests/process/storm.c", "-lcmocka")
+    yield from storms(storm, sizes[:-1:2] if quick else sizes[::2])
