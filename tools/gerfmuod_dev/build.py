@@ -24,12 +24,12 @@ NOT_COPIED = shutil.ignore_patterns("out", "must-fail", "mutants")
 QUIET = re.compile(r"(== |logic|statements|library|crate|by-macro|only=|so far:|empty contracts|rt: chose)|.*: proved$")
 
 
-def prove(crate, below, room, jobs):
+def prove(crate, below, room, jobs, niceness):
     """Proves a crate over those below it in a checkout, and builds it; returns whether that succeeded, and prints it."""
     began, verb = time.time(), "run" if crate.name in PROGRAMS else "check" if crate.is_program else "lib"
     keep(below, room, ["rlib"])
     keep([crate.name], room)
-    command = ["rt", verb, "--jobs", f"{jobs}", *["--", "--help"] * (verb == "run")]
+    command = ["nice", "-n", f"{niceness}", "rt", verb, "--jobs", f"{jobs}", *["--", "--help"] * (verb == "run")]
     # (a prover that is ended leaves hundreds of megabytes, which go with the checkout)
     environment = {**os.environ, "TMPDIR": room}
     result = running.run(command, cwd=f"{room}/crates/{crate.name}", stderr=subprocess.STDOUT, timeout=None, env=environment)
@@ -45,17 +45,18 @@ def prove(crate, below, room, jobs):
 
 
 def prove_all(names):
-    """Proves these crates and those below them; returns whether that succeeded."""
+    """Proves these crates and those below them, with precedence for those that most wait for; returns whether that succeeded."""
     crates, ended, rooms = repository.crates(names), {}, queue.SimpleQueue()
+    waiting = {name: sum(name in repository.crates([other]) for other in crates) for name in crates}
 
     def prove_in_turn(crate):
         if not all([ended[name].result() for name in crate.below]):
             return False
         room = rooms.get()
         try:
-            # (by then crates that can be proved at the same time have their rooms; the processors are shared among them)
-            time.sleep(0.1)
-            return prove(crate, repository.crates(crate.below), room, len(copies) // (len(copies) - rooms.qsize()))
+            time.sleep(0.1)  # (by then crates that can be proved at the same time have their rooms)
+            jobs = max(min(2, len(copies)), 1 + rooms.qsize())
+            return prove(crate, repository.crates(crate.below), room, jobs, 19 - 19 * waiting[crate.name] // len(crates))
         finally:
             rooms.put(room)
 
@@ -110,6 +111,5 @@ def run(options):
     programs = [options.program] if options.program else PROGRAMS
     what = f"Proves {len(repository.crates(programs))} crates, and builds {' and '.join(f'bin/{name}' for name in programs)}"
     print(f"{what}: half an hour on four processors the first time, and later what changed.", flush=True)
-    is_well = prove_all(programs)
-    print("Proved and built." if is_well else "NOT PROVED.")
-    return 0 if is_well else 1
+    print("Proved and built." if (is_well := prove_all(programs)) else "NOT PROVED.")
+    return int(not is_well)

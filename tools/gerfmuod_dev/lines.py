@@ -2,8 +2,7 @@
 
 The kinds are: code (src/), tests (the crates test_*, and src/tests), definitions (specs/), lemmas (files of proofs/), answers (the explicit
 answers and invariants in the folders of functions), mutants, and data that programs read or are compared with. Comments and empty lines
-count. Prints a line for each crate in the order of crates.txt, and then the sums, which documents state as the size of the repository.
-Then prints for each limit of the budget what there is; the status is 1 if there is more of one.
+count. Prints a line for each crate, the sums, and for each limit of the budget what there is; the status is 1 if there is more of one.
 """
 import glob
 import re
