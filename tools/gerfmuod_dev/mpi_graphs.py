@@ -109,7 +109,7 @@ def judge_damages(tally, mpi, folder):
 
 def judge_crashes(tally, mpi, program):
     """Counts whether mpirun ends by itself, fails, says why, and leaves no process, if one ends in a body whose value the others await."""
-    for (way, reason), (processes, *rest) in itertools.product(mpi.reasons.items(), ((3, "1"), (4, "2", "return"))):
+    for (way, reason), (processes, *rest) in itertools.product(mpi.reasons.items(), ((3, "1"), (4, "2", "return"), (4, "2", "pool"))):
         command, began = command_of(mpi, processes, program, [way, *rest], SECONDS_OF_CRASH), time.monotonic()
         result = start(command, env=ENVIRONMENT, timeout=2 * SECONDS_OF_CRASH)
         seconds, left = time.monotonic() - began, start(["pgrep", "-f", program])
@@ -127,14 +127,14 @@ def run_programs(tally, folder, size):
         tally.skips("factorizations by ScaLAPACK, StarPU or OpenBLAS", "libscalapack-openmpi-dev, libstarpu-dev or libopenblas-dev")
     for mpi in found:
         fuzz, jacobi, costs = (compiled(mpi, folder, name) for name in ("graph_fuzz", "mpi_jacobi", "graph_costs"))
-        crash, search, patterns = (compiled(mpi, folder, name) for name in ("graph_crash", "uts_mpi", "graph_patterns"))
-        pool_fuzz, pool_search = (compiled(mpi, folder, name, (POOL, SOURCE)) for name in ("pool_fuzz", "pool_search"))
+        search, patterns = (compiled(mpi, folder, name) for name in ("uts_mpi", "graph_patterns"))
+        crash, pool_fuzz, pools = (compiled(mpi, folder, name, (POOL, SOURCE)) for name in ("graph_crash", "pool_fuzz", "pool_search"))
         factoring = [with_rows(mpi, folder), *(compiled(mpi, folder, name, options=BLAS) for name in ("graph_cholesky", "mpi_cholesky"))]
         for name, options in peers * (mpi.name == "Open MPI"):
             factoring.append(compiled(mpi, folder, name, path=f"{folder}/{os.path.basename(name)}", options=[*options, *BLAS]))
         runs = [(program, ["1", size.seeds, *rest], "") for program in (fuzz, pool_fuzz) for rest in (["1"], ["2"], ["2", "fails"])]
-        runs += [(jacobi, [], JACOBI), (crash, ["none", "2"], WELL), (search, ["T0"], "right")]
-        runs += [(pool_search, [tree, "2"], "right") for tree in size.trees]
+        runs += [(jacobi, [], JACOBI), (crash, ["none", "2"], WELL), (crash, ["none", "2", "pool"], WELL), (search, ["T0"], "right")]
+        runs += [(pools, [tree, "2"], "right") for tree in size.trees]
         runs += [(patterns, [way, *"spread 16 50 2 2 100".split()], PATTERN) for way in ("graph", "plain")]
         runs += [(compiled_cpp(mpi, folder, name), [], printed) for name, printed in IN_CPP.items()]
         if tally.has(mpi.fortran, f"task graphs in Fortran over {mpi.name}"):

@@ -208,7 +208,9 @@ GERFMUOD_CHECKED uint32_t gerfmuod_core_open(gerfmuod_core *core, uint32_t nodes
  * proved holds of all of them. It has no trace, allocates nothing for steps, and never returns HISTORY_FULL. A step is refused as
  * STORE_FULL, after the checks of its kind, if a counter of the generation is at its limit: 4,294,967,295 tasks and actions are
  * left, or that many messages are in flight, or the node has sent or received 536,870,911 messages; a start, before its checks,
- * after 1,048,577 waves, and gerfmuod_core_settle after 1,048,576; and a reopening of generation 4,294,967,295. */
+ * after 1,048,577 waves, and gerfmuod_core_settle after 1,048,576; and a reopening of generation 4,294,967,295.
+ * Nodes and inputs have the limits of any core: both kinds take the same steps, and a step is what a trace can say. Of a task with more
+ * inputs let the last one stand for the rest, and supply it when the last of these is there. */
 GERFMUOD_CHECKED uint32_t gerfmuod_core_open_unrecorded(gerfmuod_core *core, uint32_t nodes);
 
 /* Frees what the core allocated. It is then closed, and may be opened again. Returns 0, or the refusal, and nothing has
@@ -335,8 +337,9 @@ GERFMUOD_CHECKED GERFMUOD_INLINE gerfmuod_step_result gerfmuod_core_step_by_trac
  * gerfmuod_core_step, and the library has a symbol for each of them, for languages that do not read this header: these take a step
  * with any number. */
 
-/* Inserts a task at its home node, which must be active. It waits for 0 to 16 inputs, and is ready if there are none.
- * BAD_SPEC, NO_NODE, TASK_KNOWN, INACTIVE. */
+/* Inserts a task at its home node, which must be active. It waits for 0 to 16 inputs, and is ready if there are none. It stays there: a
+ * task that another node takes is a message to that node, which inserts a task when it came (four steps: send, receive, insert,
+ * message end; gerfmuod_core_steps takes them in one call). BAD_SPEC, NO_NODE, TASK_KNOWN, INACTIVE. */
 GERFMUOD_CHECKED GERFMUOD_INLINE gerfmuod_step_result gerfmuod_core_insert(gerfmuod_core *core, uint32_t node, uint32_t task,
                                                                            uint32_t inputs) {
     return GERFMUOD_TAKE(core, GERFMUOD_STEP_INSERT, node, task, inputs, 0);

@@ -51,7 +51,8 @@ GERFMUOD_CHECKED uint32_t gerfmuod_mpi_pool_spawn(gerfmuod_mpi_pool *pool, int t
  * failed and all that run are finished; tasks that did not run are then dropped. Collective; a pool may run several times. Returns in
  * every process the same, for the first reason that applies, with no body run but for the last: in the lowest process that has one,
  * NO_MEMORY, also if a kind could not be kept, NO_THREAD if `threads` is 0, NOT_STARTED; then DIFFERENT if the processes named different
- * numbers of kinds; STOPPED if a body failed. */
+ * numbers of kinds; STOPPED if a body failed. If a process is killed, or a body calls exit(3) or abort, the others wait for it: mpirun of
+ * Open MPI and of MPICH ends them and fails within 30 s (tested, on one machine). */
 GERFMUOD_CHECKED uint32_t gerfmuod_mpi_pool_run(gerfmuod_mpi_pool *pool, uint32_t threads);
 
 /* After a run that returned STOPPED: the process whose body failed, and the kind of its task. If several failed, the lowest. */

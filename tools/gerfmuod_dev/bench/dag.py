@@ -146,9 +146,9 @@ def jacobi_and_sort(bench, programs):
 
 def instructions_by_way(bench, programs, shape):
     """Returns the instructions of one round, by the difference to none, with empty bodies and one thread; none if they are not counted."""
-    if not bench.counts or bench.load or not shutil.which("valgrind"):
-        return {}
     size, counts = (shape, COUNTED_TASKS, 0), {}
+    if not bench.counts or bench.load or not shutil.which("valgrind"):
+        return counts
     own = [programs.own("bench/grain", size, [way]) for way in (POOL[0], TRACED, OPENMP[0])]
     for process in (process for process in [*own, *programs.tbb("grain", size, [1])] if process.program):
         none, one = (running.instructions(process.command(rounds), env={**os.environ, **NO_STRING_MOVES}) for rounds in (0, 1))
@@ -162,8 +162,9 @@ def empty(bench, programs):
         size = shape, EMPTY_TASKS, 0
         own = programs.own("bench/grain", size, [*POOL, TRACED, *ON_WORKERS, *OPENMP]), *programs.tbb("grain", size)
         yield from compare(bench, f"{shape}, empty bodies", own, functools.partial(instructions_by_way, bench, programs, shape))
+    few = bench._replace(rounds=min(bench.rounds, ROUNDS_IN_TURN))  # (a million tasks take seconds a round)
     for shape, tasks in itertools.product(GROWING, (1_000, 10_000 if bench.is_quick else 1_000_000)):
-        yield from compare(bench, f"{shape}, {tasks:,} empty bodies", [programs.own("bench/grain", (shape, tasks, 0), POOL + ON_WORKERS)])
+        yield from compare(few, f"{shape}, {tasks:,} empty bodies", [programs.own("bench/grain", (shape, tasks, 0), POOL + ON_WORKERS)])
 
 
 def bodies(bench, programs):
