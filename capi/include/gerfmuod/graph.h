@@ -164,9 +164,9 @@ enum gerfmuod_graph_call {
     /* k. A reader: event k of this run, from 0, if the graph is traced. `next` is 1 if task `number` was returned, 2 if it was
      * reported as done, and 0 if there is no such event. */
     GERFMUOD_GRAPH_EVENT = 12,
-    /* As AGAIN, also before a run, in one that was not finished and after a fault, which is forgotten: tasks count as never returned. After a
-     * fault the graph does not know which bodies still run: make the call when all have returned. Refused: RUNNING if a turn has not
-     * returned, or if a task runs and there is no fault; WRONG_LIFE if a task was added in a run. */
+    /* As AGAIN, also before a run, in one that was not finished and after a fault, which is forgotten: tasks count as never returned.
+     * After a fault the graph does not know which bodies still run: make the call when all have returned. Refused: RUNNING if a turn has
+     * not returned, or if a task runs and there is no fault; WRONG_LIFE if a task was added in a run. */
     GERFMUOD_GRAPH_RESET = 13,
     /* A reader: `number` is the number of tasks that are not done. */
     GERFMUOD_GRAPH_LEFT = 14,

@@ -163,7 +163,8 @@ static uint32_t open_all(gerfmuod_part *all, bool counts) {
  * waits for those that read. */
 static void run(uint32_t p, uint32_t t) {
     for (uint32_t k = 0; !is_on_data && k < tasks[t].count; k++)
-        check_that(here[p][tasks[t].on[k]] == expected[tasks[t].on[k]], "task %u runs before a value of task %u is there", t, tasks[t].on[k]);
+        check_that(here[p][tasks[t].on[k]] == expected[tasks[t].on[k]], "task %u runs before a value of task %u is there", t,
+                   tasks[t].on[k]);
     check_that(tasks[t].owner == p && !here[p][t], "task %u runs at part %u, or twice", t, p);
     here[p][t] = is_on_data ? 1 : result_of(t, here[p]);
 }

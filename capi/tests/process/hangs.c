@@ -156,7 +156,8 @@ CASE(line) {
 int main(void) {
     const struct CMUnitTest cases[] = {
         cmocka_unit_test(no_mistake), cmocka_unit_test(uncounted_message), cmocka_unit_test(receipt_counted_twice),
-        cmocka_unit_test(receipt_counted_twice_and_finished_once), cmocka_unit_test(unfinished_work), cmocka_unit_test(wave_that_was_not_sent),
+        cmocka_unit_test(receipt_counted_twice_and_finished_once), cmocka_unit_test(unfinished_work),
+        cmocka_unit_test(wave_that_was_not_sent),
         cmocka_unit_test(report_that_was_not_sent), cmocka_unit_test(end_that_was_not_sent), cmocka_unit_test(next_that_is_not_called),
         cmocka_unit_test(message_that_is_lost), cmocka_unit_test(line),
     };
