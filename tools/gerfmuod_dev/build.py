@@ -29,10 +29,11 @@ def prove(crate, below, room, jobs, niceness):
     began, verb = time.time(), "run" if crate.name in PROGRAMS else "check" if crate.is_program else "lib"
     keep(below, room, ["rlib"])
     keep([crate.name], room)
-    command = ["nice", "-n", f"{niceness}", "rt", verb, "--jobs", f"{jobs}", *["--", "--help"] * (verb == "run")]
+    niced = f"nice -n {niceness}".split() * bool(shutil.which("rt"))  # (else it is `rt` that is missing)
+    command = [*niced, *f"rt {verb} --jobs {jobs}{' -- --help' * (verb == 'run')}".split()]
     # (a prover that is ended leaves hundreds of megabytes, which go with the checkout)
-    environment = {**os.environ, "TMPDIR": room}
-    result = running.run(command, cwd=f"{room}/crates/{crate.name}", stderr=subprocess.STDOUT, timeout=None, env=environment)
+    options = {"cwd": f"{room}/crates/{crate.name}", "env": {**os.environ, "TMPDIR": room}, "timeout": None}
+    result = running.run(command, stderr=subprocess.STDOUT, **options)
     if result.status:
         lines = [line for line in result.out.decode(errors="replace").splitlines() if not QUIET.match(line)]
         print("\n".join([f"{crate.name}: NOT PROVED", *lines]), flush=True)
