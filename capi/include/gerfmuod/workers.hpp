@@ -8,9 +8,9 @@
 //     auto a = links.task(), b = links.task(), c = links.task({a, b});
 //     workers.run(links, [&](std::uint32_t task) { compute(task); }); // and again, with the same links or others
 //
-// Each worker has a list of tasks and a lock of its own, and takes tasks from others when it has none, so bodies of a microsecond gain from
-// several threads. A gerfmuod::Pool has what workers lack: data handles, results, classes, tasks that are added to a graph in a run, inputs
-// from outside and records.
+// Each worker has a list of tasks and a lock of its own, and takes tasks from others when it has none, so short bodies do not wait for one
+// lock. A gerfmuod::Pool has what workers lack: data handles, results, classes, tasks that are added to a graph in a run, inputs from
+// outside and records.
 //
 // A body runs once; of a graph, after all tasks that it waits for, and it sees what they wrote. If one throws, the run stops: bodies that
 // run are finished, no further one begins, tasks that did not run are dropped, and run() throws that exception, or the first of several.
