@@ -205,8 +205,8 @@ fn no_step(room: &mut BoundedCore) -> StepResult
     step_result(room, None)
 }
 
-/// Takes the next step. Each kind of steps of tasks and messages has a copy of what follows: step_result the kind once, it
-/// does not build the step and match it again.
+/// Takes the next step. Each kind of steps of tasks and messages has a copy of what follows, which does
+/// not build the step and match it again.
 #[inline(always)]
 fn taken(room: &mut BoundedCore, raw: RawStep) -> StepResult
     ensures { IsStep raw room.old result room.new }
