@@ -3,18 +3,18 @@ ghost use Rattle.std.specs.Prelude.{◌≡◌, ◌≤◌, length};
 ghost use Rattle.gerfmuod.specs.Calls.{IsBatch, IsStepsCall};
 
 use crate::answer::StepResult;
-use crate::calls::{not_taken, step_result};
+use crate::calls::{not_taken, take_step};
 use crate::pool::BoundedCore;
 use crate::raw_step::{RawStep, step_of};
 use crate::slot::CoreSlot;
 
 /// Takes the steps in order, up to the first that is refused, and writes the result of each. Returns how many were taken.
-fn taken(room: &mut BoundedCore, steps: &[RawStep], answers: &mut [StepResult]) -> usize
+fn take_steps(room: &mut BoundedCore, steps: &[RawStep], answers: &mut [StepResult]) -> usize
     requires { length steps.now ≤ length answers.now }
     ensures { IsBatch steps.now answers.old room.old result answers.new room.new }
 {
     for count in 0..steps.len() {
-        let answer = step_result(room, step_of(steps[count]));
+        let answer = take_step(room, step_of(steps[count]));
         answers[count] = answer;
         if answer.refused != 0 {
             return count;
@@ -34,7 +34,7 @@ pub(crate) fn steps(slot: &mut CoreSlot, steps: &[RawStep], answers: &mut [StepR
         }
         return 0;
     }
-    let count = taken(&mut slot.room, &steps[..length], answers);
+    let count = take_steps(&mut slot.room, &steps[..length], answers);
     slot.leave();
     count
 }

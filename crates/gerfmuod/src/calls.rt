@@ -159,8 +159,8 @@ fn of_reply(reply: Reply) -> StepResult
 /// Takes the next step if there is one, and returns the result for C.
 #[inline(always)]
 #[tactic(auto, using(crate::proofs::Steps::reply_safe))]
-pub(crate) fn step_result(room: &mut BoundedCore, step: Option<Step>) -> StepResult
-    ensures step_result { IsStepResult room.old step result room.new }
+pub(crate) fn take_step(room: &mut BoundedCore, step: Option<Step>) -> StepResult
+    ensures taken { IsStepResult room.old step result room.new }
     ensures safe { TellsNoEarlyEnd (result.event ≡ 3) result.number room.new }
 {
     let ends = is_ending(step);
@@ -176,9 +176,9 @@ pub(crate) fn step_result(room: &mut BoundedCore, step: Option<Step>) -> StepRes
     }
 }
 
-/// Takes the next step if there is one, as `step_result` does. All that such a step can show is that nothing is left.
+/// Takes the next step if there is one, as `take_step` does. All that such a step can show is that nothing is left.
 #[inline(always)]
-fn plain_step_result(room: &mut BoundedCore, step: Option<Step>) -> StepResult
+fn take_plain_step(room: &mut BoundedCore, step: Option<Step>) -> StepResult
     requires { IsTrue (has_plain_reply step) }
     ensures { IsStepResult room.old step result room.new × TellsNoEarlyEnd (result.event ≡ 3) result.number room.new }
 {
@@ -202,25 +202,25 @@ fn plain_step_result(room: &mut BoundedCore, step: Option<Step>) -> StepResult
 fn no_step(room: &mut BoundedCore) -> StepResult
     ensures { IsStepResult room.old None result room.new × TellsNoEarlyEnd (result.event ≡ 3) result.number room.new }
 {
-    step_result(room, None)
+    take_step(room, None)
 }
 
 /// Takes the next step. Each kind of steps of tasks and messages has a copy of what follows, which does
 /// not build the step and match it again.
 #[inline(always)]
-fn taken(room: &mut BoundedCore, raw: RawStep) -> StepResult
+fn take_raw_step(room: &mut BoundedCore, raw: RawStep) -> StepResult
     ensures { IsStep raw room.old result room.new }
 {
     let (first, second, third) = (raw.first, raw.second, raw.third);
     match raw.kind {
-        0 => plain_step_result(room, insert_step(first, second, third)),
-        1 => plain_step_result(room, Some(Step::Supply(TaskId(first)))),
-        2 => plain_step_result(room, Some(Step::Begin(TaskId(first)))),
-        3 => plain_step_result(room, Some(Step::Done(TaskId(first)))),
-        7 => plain_step_result(room, other_step(raw)),
-        8 => plain_step_result(room, other_step(raw)),
-        9 => plain_step_result(room, other_step(raw)),
-        _ => step_result(room, step_of(raw)),
+        0 => take_plain_step(room, insert_step(first, second, third)),
+        1 => take_plain_step(room, Some(Step::Supply(TaskId(first)))),
+        2 => take_plain_step(room, Some(Step::Begin(TaskId(first)))),
+        3 => take_plain_step(room, Some(Step::Done(TaskId(first)))),
+        7 => take_plain_step(room, other_step(raw)),
+        8 => take_plain_step(room, other_step(raw)),
+        9 => take_plain_step(room, other_step(raw)),
+        _ => take_step(room, step_of(raw)),
     }
 }
 
@@ -246,7 +246,7 @@ pub(crate) fn answered(
         third,
         generation,
     };
-    let answer = taken(&mut slot.room, raw);
+    let answer = take_raw_step(&mut slot.room, raw);
     slot.leave();
     answer
 }
@@ -284,13 +284,13 @@ fn result_for_maker(
         return by_fields(no_step(room));
     };
     match is_made_by(room, maker_kind, maker, made) {
-        Some(true) => plain_step_result(room, step),
+        Some(true) => take_plain_step(room, step),
         Some(false) => plain(NO_MAKER, 0, 0),
         None => by_fields(no_step(room)),
     }
 }
 
-/// Takes the next step if its maker may make it. Each kind has a copy of what follows, as in `taken`.
+/// Takes the next step if its maker may make it. Each kind has a copy of what follows, as in `take_raw_step`.
 #[inline(always)]
 fn taken_by(room: &mut BoundedCore, maker_kind: u32, maker: u32, raw: RawStep) -> StepResult
     ensures { IsMakerResult room.old (maker_asked maker_kind maker) (made_step raw) result room.new

@@ -10,5 +10,5 @@ returns c =
     let given : take c.min-length.result steps ≡ take (length room) steps =
     ap (λ k. take k steps) c.min-length.ensures ∙ take_min (length room) steps in
     let after = c.leave.ensures in
-    taken_by_call steps _ room c.args.slot.now c.leave.new.self c.slot.inside.room c.taken-count.result c.taken-count.new.answers
-    given before entered.0 (rw after refl) (rw after c.taken-count.ensures)
+    taken_by_call steps _ room c.args.slot.now c.leave.new.self c.slot.inside.room c.take_steps-count.result c.take_steps-count.new.answers
+    given before entered.0 (rw after refl) (rw after c.take_steps-count.ensures)

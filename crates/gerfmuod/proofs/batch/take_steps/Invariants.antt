@@ -1,5 +1,5 @@
 use Rattle.gerfmuod.proofs.Steps.{AfterSteps}
-use Rattle.gerfmuod.proofs.batch.taken.Given as goal
+use Rattle.gerfmuod.proofs.batch.take_steps.Given as goal
 
 -- the steps so far were taken, and their results are written
 abbrev pub invariant-loop-count : goal.invariant-loop-count
