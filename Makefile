@@ -23,7 +23,7 @@
 # make bench    measures the cost of a step that a program in C reports to the library, and compares all programs with others
 #               that do the same; the quick form takes some minutes (FULL=1: all cases, stored as the numbers of
 #               docs/PERFORMANCE.md; see bench/README.md)
-# make docs     draws the pictures of docs/figures again: runs by bin/samples, Cholesky by the library of make lib (without it,
+# make docs     writes the contracts of each crate to out/contracts, and draws the pictures of docs/figures again: runs by bin/samples, Cholesky by the library of make lib (without it,
 #               its picture stays), plots and the crates by matplotlib and graphviz (tools/bench-packages)
 # make install  installs what a user needs of them (tools/install): the proved programs and the library, with the manual (if pandoc and
 #               help2man are installed), completion, examples, the pages for users, and packages for pkg-config and CMake. It takes DESTDIR, PREFIX
@@ -110,6 +110,7 @@ bench: bin/samples lib/libgerfmuod.a
 	@tools/dev bench $(if $(FULL),--full --write,--quick)
 
 docs: bin/samples
+	@tools/dev contracts
 	@tools/dev draw
 	@tools/dev plot
 

@@ -31,7 +31,8 @@ struct crew {
     uint32_t count;              /* of the members */
     uint32_t calls;              /* how often they were called */
     uint32_t wanted;             /* by the last call: members of lower numbers act */
-    uint32_t inside;             /* how many of these have not left it */
+    uint32_t come;               /* how many of these have begun to act */
+    uint32_t inside;             /* how many are awaited: they have not left it */
     uint32_t polls;              /* CREW_POLLS, or 0 if there are more threads than processors */
     bool is_closing;
     void (*act)(void *argument);
@@ -59,6 +60,7 @@ static void *be_member(void *argument) {
         if (crew->is_closing) break;
         member->seen = crew->calls;
         if (member->number >= crew->wanted) continue;
+        crew->come++;
         pthread_mutex_unlock(&crew->lock);
         crew->act(crew->argument); /* both stay until this member has left */
         pthread_mutex_lock(&crew->lock);
@@ -101,11 +103,19 @@ static uint32_t crew_grow(struct crew *crew, uint32_t wanted) {
 /* Calls the first members, as many as are wanted and are there, to act. No earlier call may have members in it. */
 static void crew_call(struct crew *crew, uint32_t wanted, bool may_poll, void (*act)(void *), void *argument) {
     pthread_mutex_lock(&crew->lock);
-    crew->wanted = crew->inside = wanted;
+    crew->wanted = crew->inside = wanted, crew->come = 0;
     crew->polls = may_poll ? CREW_POLLS : 0;
     crew->act = act, crew->argument = argument;
     crew->calls++;
     if (wanted) pthread_cond_broadcast(&crew->called);
+    pthread_mutex_unlock(&crew->lock);
+}
+
+/* What members were called for is over: those that have not come yet need not, as a thread that sleeps may take 50 microseconds. */
+static inline void crew_recall(struct crew *crew) {
+    pthread_mutex_lock(&crew->lock);
+    crew->inside -= crew->wanted - crew->come;
+    crew->wanted = crew->come = 0;
     pthread_mutex_unlock(&crew->lock);
 }
 

@@ -151,14 +151,20 @@ static uint32_t spin(gerfmuod_team *team, uint32_t polls) {
     return polls;
 }
 
-gerfmuod_graph_result gerfmuod_team_turn(gerfmuod_team *team, uint32_t done) {
-    uint64_t begun = ticks_now(team->clock), waited = 0;
-    acquire(team);
-    struct profile *profile = team->profile; /* the same until the turn returns */
+/* Reports a task, and asks for the next one, while the lock is held. */
+static inline gerfmuod_graph_result begin_turn(gerfmuod_team *team, uint32_t done, uint32_t polls, uint64_t begun) {
+    struct profile *profile = team->profile;
     if (profile) profile_end_body(profile, done, begun);
-    uint32_t polls = SPINS;
     gerfmuod_graph_result answer = ask(team, GERFMUOD_GRAPH_TURN, done, polls);
     if (profile && !answer.refused && done != GERFMUOD_GRAPH_NONE) profile->tasks[done].is_done = true;
+    return answer;
+}
+
+/* Waits while the graph says so, and releases the lock. */
+static inline gerfmuod_graph_result end_turn(gerfmuod_team *team, gerfmuod_graph_result answer, uint64_t begun) {
+    struct profile *profile = team->profile; /* the same until the turn returns */
+    uint64_t waited = 0;
+    uint32_t polls = SPINS;
     while (answer.next == GERFMUOD_GRAPH_SPIN || answer.next == GERFMUOD_GRAPH_SLEEP) {
         bool is_spin = answer.next == GERFMUOD_GRAPH_SPIN;
         if (!waited) waited = ticks_now(team->clock);
@@ -169,6 +175,28 @@ gerfmuod_graph_result gerfmuod_team_turn(gerfmuod_team *team, uint32_t done) {
     if (profile) profile_end_turn(profile, answer.next == GERFMUOD_GRAPH_RUN ? answer.number : GERFMUOD_GRAPH_NONE, begun, waited);
     release(team);
     return answer;
+}
+
+gerfmuod_graph_result gerfmuod_team_turn(gerfmuod_team *team, uint32_t done) {
+    uint64_t begun = ticks_now(team->clock);
+    acquire(team);
+    return end_turn(team, begin_turn(team, done, SPINS, begun), begun);
+}
+
+/* For the graph the thread sleeps until it comes back. A signal in between may wake no thread, but this one then asks by itself. */
+gerfmuod_graph_result gerfmuod_team_try_turn(gerfmuod_team *team, uint32_t done) {
+    uint64_t begun = ticks_now(team->clock);
+    acquire(team);
+    gerfmuod_graph_result answer = begin_turn(team, done, 0, begun);
+    if (answer.next != GERFMUOD_GRAPH_SLEEP) return end_turn(team, answer, begun);
+    release(team);
+    return answer;
+}
+
+gerfmuod_graph_result gerfmuod_team_await_turn(gerfmuod_team *team) {
+    uint64_t begun = ticks_now(team->clock);
+    acquire(team);
+    return end_turn(team, ask(team, GERFMUOD_GRAPH_TURN_WOKEN, GERFMUOD_GRAPH_NONE, SPINS), begun);
 }
 
 void gerfmuod_team_stop(gerfmuod_team *team, uint32_t task) {
@@ -238,6 +266,7 @@ uint32_t gerfmuod_team_run(gerfmuod_team *team, uint32_t threads, gerfmuod_team_
     uint32_t refused = start_with_crew(team, threads, threads - 1, body, context);
     if (refused) return refused;
     run_tasks(team);
+    crew_recall(&team->crew);
     return gerfmuod_team_wait(team, GERFMUOD_TEAM_NO_LIMIT);
 }
 

@@ -10,8 +10,8 @@ NAME = "libgerfmuod.so.0"
 #: No task has this number.
 NONE = 0xFFFFFFFF
 NOT_STARTED = 65
-#: What a turn returns if it returns a task.
-RUN = 1
+#: What a turn returns if it returns a task, and if it goes on in a second call.
+RUN, SLEEP = 1, 3
 READ, WRITE, UPDATE = 1, 2, 3  # enum gerfmuod_mode
 
 
@@ -67,7 +67,7 @@ def _declare(library: ctypes.CDLL) -> ctypes.CDLL:
         "gerfmuod_team_outside": (u32, [team, u32]),
         "gerfmuod_team_release": (u32, [team, u32]),
         "gerfmuod_team_start": (u32, [team, u32]),
-        "gerfmuod_team_turn": (GraphResult, [team, u32]),
+        "gerfmuod_team_await_turn": (GraphResult, [team]),
         "gerfmuod_team_again": (u32, [team]),
         "gerfmuod_team_reset": (u32, [team]),
         "gerfmuod_team_clear": (u32, [team]),
@@ -100,6 +100,9 @@ def _declare(library: ctypes.CDLL) -> ctypes.CDLL:
 
 
 library = _declare(_load())
+#: A turn, or its beginning, during which the interpreter's lock is kept: it never waits for a task.
+try_turn = ctypes.PyDLL(library._name).gerfmuod_team_try_turn
+try_turn.restype, try_turn.argtypes = GraphResult, [ctypes.c_void_p, ctypes.c_uint32]
 
 
 class Team(ctypes.c_void_p):

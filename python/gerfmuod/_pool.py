@@ -13,7 +13,7 @@ import threading
 import weakref
 from typing import Any, Callable, Dict, Generic, Iterable, Iterator, List, NamedTuple, Optional, Tuple, TypeVar, Union
 
-from ._library import NONE, NOT_STARTED, READ, RUN, UPDATE, WRITE, Access, Team, library
+from ._library import NONE, NOT_STARTED, READ, RUN, SLEEP, UPDATE, WRITE, Access, Team, library, try_turn
 from ._refused import Refused
 
 Result = TypeVar("Result")
@@ -196,10 +196,12 @@ class _Run:
 
     def work(self) -> None:
         """Runs tasks until the run is over or stops."""
-        done, turn, team = NONE, library.gerfmuod_team_turn, self.team
+        done, team = NONE, self.team
         try:
             while True:
-                answer = turn(team, done)
+                answer = try_turn(team, done)
+                if answer.next == SLEEP:
+                    answer = library.gerfmuod_team_await_turn(team)
                 if answer.next != RUN:  # or it is refused
                     return
                 done = answer.number

@@ -3,17 +3,15 @@
 First each compiler on this machine checks the headers as C99, C11, C++98 to C++17, with and without ThreadSanitizer, and the
 programs in C and C++, with all warnings on. If lib/libgerfmuod.a is there and was built from these sources (`make lib` builds it), it
 compares the names that the archive and the shared object define with what the headers declare. Then it runs the programs of the
-first part of tools/data/capi.json. The table that damages.c prints is compared with docs/OTHER-RUNTIMES.md. The programs of capi/mpi
-run if mpicc and mpirun are installed. It skips what is not installed, and counts that.
-
-With --full only the fuzz runs, in its long form. With --bench it runs no program, but measures and prints what a step costs:
+first part of tools/data/capi.json. The table that damages.c prints is compared with docs/OTHER-RUNTIMES.md. What is not installed is
+skipped. With --full only the fuzz runs, in its long form. With --bench it runs no program, but measures and prints what a step costs:
 instructions, which valgrind counts at two numbers of steps, memory, nanoseconds, locks, and the depth of the stack.
 """
 import re
 import shutil
 import sys
 
-from . import library, mpi, repository, shared_object
+from . import library, repository, shared_object
 from .c_programs import Build, Program, check_sources, output_of, programs, run_programs, start
 from .repository import text_of
 from .running import Tally, instructions
@@ -80,5 +78,4 @@ def run(options):
     if not options.full:
         check_symbols(tally)
         check_page(tally, build)
-        mpi.run_quick(tally, build.folder)
     return None

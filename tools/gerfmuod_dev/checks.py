@@ -18,9 +18,9 @@ from . import repository, running
 
 # the arguments of tools/dev for each part; those that take longest begin first
 PARTS = {
-    "dag": "dag", "try": "try", "capi": "capi", "pages": "pages", "package": "package", "strange": "limits strange --quick",
-    "refuse": "limits refuse --quick", "manners": "limits manners", "docs": "docs", "bench": "bench --check",
-    "mutants": "mutants --stale", "tools": "test --tools", "mpi-check": "mpi-check", "ompt": "ompt",
+    "dag": "dag", "try": "try", "capi": "capi", "mpi": "mpi --quick", "pages": "pages", "package": "package",
+    "strange": "limits strange --quick", "refuse": "limits refuse --quick", "manners": "limits manners", "docs": "docs",
+    "bench": "bench --check", "mutants": "mutants --stale", "tools": "test --tools", "mpi-check": "mpi-check", "ompt": "ompt",
 }
 TOOLS = f"{repository.TOP}/tools/dev"
 # the time limits in minutes: of a part of the tests, and of the gate, which leaves them time within three hours

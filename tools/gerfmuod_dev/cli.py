@@ -7,15 +7,15 @@ import argparse
 import os
 import tempfile
 
-from . import bench, build, capi, checks, dag_programs, docs, drawn, library, limits, lines
+from . import bench, build, capi, checks, contracts, dag_programs, docs, drawn, library, limits, lines
 from . import mpi, mpi_check, mutants, new_pool, ompt, pages, plots, repository, soak, summary, tries
 from .running import Tally
 from .shipping import package
 
 COMMANDS = {
-    "build": build, "lib": library, "test": checks, "capi": capi, "dag": dag_programs, "mpi": mpi, "mpi-check": mpi_check, "ompt": ompt,
-    "try": tries, "pages": pages, "mutants": mutants, "lines": lines, "docs": docs, "draw": drawn, "plot": plots,
-    "summary": summary, "new-pool": new_pool, "soak": soak, "limits": limits, "bench": bench, "package": package,
+    "build": build, "lib": library, "test": checks, "capi": capi, "dag": dag_programs, "mpi": mpi, "mpi-check": mpi_check,
+    "ompt": ompt, "try": tries, "pages": pages, "mutants": mutants, "lines": lines, "docs": docs, "contracts": contracts, "draw": drawn,
+    "plot": plots, "summary": summary, "new-pool": new_pool, "soak": soak, "limits": limits, "bench": bench, "package": package,
 }
 
 

@@ -1,12 +1,14 @@
-"""Reads the contracts of a crate: its functions with their clauses and docstrings, and its types with what they keep.
+"""Writes a page for each crate to out/contracts: its public functions, each with its docstring and its contract.
 
 The files have the layout of `rt fmt`, so the beginning of a line shows what the line begins. Of bodies only the places are read.
 """
 import functools
+import os
 import re
+from textwrap import dedent
 from typing import NamedTuple
 
-from . import repository
+from . import repository, running
 from .repository import text_of
 
 VISIBLE = r"(pub(?:\([^)]*\))? )?"
@@ -145,3 +147,12 @@ def types_with_invariant(crate):
     texts = [text_of(path) for path in repository.files_in(f"crates/{crate}/src") if path.endswith(".rt")]
     models = [found for text in texts for found in re.finditer(r"^impl\b.* Model for .*\n(?:[^}\n].*\n|\n)*", text, re.M)]
     return {owner_of(found[0].split("\n")[0]) for found in models if INVARIANT.search(found[0])}
+
+
+def run(_):
+    os.makedirs("out/contracts", exist_ok=True)
+    for crate in repository.crates():
+        own = [function for function in contracts_of(crate)[0].values() if function.is_public]
+        parts = [f"\n## {it.path}\n\n{it.docstring}\n```rust\n{dedent(it.head).rstrip('{ ')}\n```\n" for it in own]
+        running.write(f"out/contracts/{crate}.md", f"# {crate}\n{''.join(sorted(parts))}")
+    return 0

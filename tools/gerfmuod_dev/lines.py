@@ -50,8 +50,7 @@ def run(_):
     proved = lines - rows["all"]["mutants"] - rows["all"]["data"]
     print(f"{crates} crates: {lines:,} lines, {proved:,} of them code, tests, definitions and proofs\n\nbudget:")
     budget = (
-        ("crates", crates, 31),
-        ("lines of crates/", lines, 100_000),
+        ("crates", crates, 31), ("lines of crates/", lines, 100_000),
         ("lines of Python", lines_in("tools/dev", "tools/**/*.py"), 7_500),
         ("lines of documents", lines_in("*.md", "bench/README.md", "docs/**/*.md"), 4_000),
     )

@@ -2,9 +2,8 @@
 
 uts_mpi.c searches two trees whose numbers of nodes and leaves are known, T1 and T3, with 1, 2, 4, 8 and 16 processes here. Then it searches
 a small tree with each hand-written detector, and with each of three faults: with a fault it has to miss nodes or not to end, which shows
-that the check can fail. The events of a small search, with their times, are checked. latency.c has each detector find the end of idle
-processes. mpi_cholesky.c has a fault, too. Then come the programs of `mpi_graphs`, over MPICH as well. With --quick trees and matrix are
-small, the processes at most 4, and what is missing is skipped: Open MPI, of `tools/mpi-packages`.
+that the check can fail, as with mpi_cholesky.c. The events of a small search are checked, and latency.c. Then come the programs of
+`mpi_graphs`, over MPICH as well. With --quick all is small, and what is missing is skipped (`tools/mpi-packages`).
 """
 import collections
 import itertools
@@ -20,8 +19,7 @@ from .mpi_graphs import ENVIRONMENT, MPIS, command_of, compiled, judge_run
 FAULTS = ["late", "early", "uncounted"]
 # the hand-written detectors, with which `tools/dev bench processes` compares the proved one
 PEERS = ["hand", "safra", "reductions"]
-SEEDS = 5
-COMMANDS = (MPIS[0].compiler, MPIS[0].runner[0])
+SEEDS, COMMANDS = 5, (MPIS[0].compiler, MPIS[0].runner[0])
 # what to run: the trees, the order of the matrix and of its tiles, the numbers of processes, and the number of random graphs
 Size = collections.namedtuple("Size", "trees matrix counts seeds")
 QUICK = Size(["T0"], ["256", "32"], [1, 2, 4], "60")
@@ -55,18 +53,13 @@ def run_programs(tally, folder, size):
     mpi_graphs.run_programs(tally, folder, size)
 
 
-def run_quick(tally, folder, size=QUICK):
-    if all(tally.has(name, "the programs of capi/mpi") for name in COMMANDS):
-        run_programs(tally, folder, size)
-
-
 def arguments(parser):
     parser.add_argument("--quick", action="store_true", help="a small tree and a small matrix, with 1, 2 and 4 processes")
 
 
 def run(options):
-    missing = " and ".join(name for name in COMMANDS if not shutil.which(name))
-    reason = library.reason_not_built() or (missing and f"{missing}: not installed")
-    if reason and not (options.quick and missing):
+    missing = "" if options.quick else " and ".join(name for name in COMMANDS if not shutil.which(name))
+    if reason := library.reason_not_built() or (missing and f"{missing}: not installed"):
         sys.exit(f"{reason}: make lib builds the library, tools/mpi-packages prints the packages")
-    run_quick(options.tally, options.temporary, QUICK if options.quick else FULL)
+    if all(options.tally.has(name, "the programs of capi/mpi") for name in COMMANDS):
+        run_programs(options.tally, options.temporary, QUICK if options.quick else FULL)

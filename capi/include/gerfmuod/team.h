@@ -144,6 +144,12 @@ GERFMUOD_CHECKED uint32_t gerfmuod_team_start(gerfmuod_team *team, uint32_t thre
  * a fault, which ends the team. */
 GERFMUOD_CHECKED gerfmuod_graph_result gerfmuod_team_turn(gerfmuod_team *team, uint32_t done);
 
+/* The same in two calls, for a thread that holds what others need, such as the lock of an interpreter, and lets go of it to wait. The
+ * first one never waits for a task: if none is ready, `next` is GERFMUOD_GRAPH_SLEEP, and the turn goes on in the second call, which
+ * the thread has to make. Else the turn is over, and the result is that of gerfmuod_team_turn, as that of the second call always is. */
+GERFMUOD_CHECKED gerfmuod_graph_result gerfmuod_team_try_turn(gerfmuod_team *team, uint32_t done);
+GERFMUOD_CHECKED gerfmuod_graph_result gerfmuod_team_await_turn(gerfmuod_team *team);
+
 /* ---- what a run did */
 
 /* Writes the events of the run as a trace of one node, which `tp audit` judges: at most `length` bytes with a zero byte at the

@@ -521,6 +521,33 @@ CASE(team_spawn) {
     gerfmuod_team_close(it.team);
 }
 
+/* Turns in two calls: the first one does not wait, before the start either, and the graph knows that the turn has not returned. */
+CASE(team_try_turn) {
+    gerfmuod_team *team = team_of(1);
+    const gerfmuod_graph_result waits = {GERFMUOD_OK, GERFMUOD_GRAPH_SLEEP, 0, 0}, over = {GERFMUOD_OK, GERFMUOD_GRAPH_OVER, 0, 0};
+    gerfmuod_graph_result answer = gerfmuod_team_try_turn(team, GERFMUOD_GRAPH_NONE);
+    check("before the start", !memcmp(&answer, &waits, sizeof answer));
+    check_ok("outside", gerfmuod_team_outside(team, 0));
+    check_ok("start", gerfmuod_team_start(team, 1));
+    check_refusal("a turn that has not returned", gerfmuod_team_start(team, 1), GERFMUOD_REFUSED_RUNNING);
+    check_ok("release", gerfmuod_team_release(team, 0));
+    check("the task", gerfmuod_team_await_turn(team).number == 0);
+    answer = gerfmuod_team_try_turn(team, 0);
+    check("the end", !memcmp(&answer, &over, sizeof answer));
+    check_ok("again", gerfmuod_team_again(team));
+    check_ok("outside", gerfmuod_team_outside(team, 0));
+    check_ok("start", gerfmuod_team_start(team, 1));
+    answer = gerfmuod_team_try_turn(team, GERFMUOD_GRAPH_NONE);
+    check("nothing is ready", !memcmp(&answer, &waits, sizeof answer));
+    gerfmuod_team_stop(team, 0);
+    answer = gerfmuod_team_await_turn(team);
+    check("it was stopped", answer.refused == GERFMUOD_REFUSED_STOPPED && answer.next == GERFMUOD_GRAPH_NOTHING && answer.number == 0);
+    check_ok("reset", gerfmuod_team_reset(team));
+    answer = gerfmuod_team_try_turn(team, 1);
+    check("no such task", answer.refused == GERFMUOD_REFUSED_NO_TASK && answer.number == 1);
+    gerfmuod_team_close(team);
+}
+
 /* More tasks than a traced team may have: one that is not traced runs them, twice. */
 CASE(most_tasks_of_a_team) {
     static uint32_t offsets[TRACED_TASKS + 2];
@@ -548,7 +575,7 @@ int main(int argc, char **argv) {
         cmocka_unit_test(not_open), cmocka_unit_test(describe), cmocka_unit_test(spawns), cmocka_unit_test(data), cmocka_unit_test(states),
         cmocka_unit_test(outside), cmocka_unit_test(faults), cmocka_unit_test(resets), cmocka_unit_test(waits),
         cmocka_unit_test(memory_around_it), cmocka_unit_test(team_describe), cmocka_unit_test(team_run),
-        cmocka_unit_test(team_stop), cmocka_unit_test(team_spawn),
+        cmocka_unit_test(team_stop), cmocka_unit_test(team_spawn), cmocka_unit_test(team_try_turn),
     };
     const struct CMUnitTest large[] = {
         cmocka_unit_test(most_steps), cmocka_unit_test(most_threads_and_inputs),

@@ -5,7 +5,7 @@
  *   storm ROUNDS [SEED [early | FOLDER]]     early: threads report tasks as done before they run them; this has to be detected.
  *                                            Else each run writes its trace and its events into FOLDER
  *
- * Every second round runs on its own threads with gerfmuod_team_turn, which begin before the start or after it.
+ * Every second round runs on its own threads with gerfmuod_team_turn, in one call or two, which begin before the start or after it.
  * Some rounds have a body that fails. One more thread releases the inputs from outside in random order, before the start and
  * after it. Every tenth graph is one task and then tasks that run on all threads at the same time. Of every third graph only
  * the beginning is described: its bodies make the other tasks. Many graphs run again, with gerfmuod_team_again. If the
@@ -144,13 +144,20 @@ static void *release_all(void *argument) {
     return argument;
 }
 
+/* A turn, of every second task in two calls. */
+static gerfmuod_graph_result turn(uint32_t ran) {
+    if (ran % 2) return gerfmuod_team_turn(team, ran);
+    gerfmuod_graph_result answer = gerfmuod_team_try_turn(team, ran);
+    return answer.next == GERFMUOD_GRAPH_SLEEP ? gerfmuod_team_await_turn(team) : answer;
+}
+
 static void *turns(void *argument) {
     for (uint32_t ran = GERFMUOD_GRAPH_NONE;;) {
-        gerfmuod_graph_result answer = gerfmuod_team_turn(team, ran);
+        gerfmuod_graph_result answer = turn(ran);
         if (answer.next != GERFMUOD_GRAPH_RUN) return argument;
         ran = answer.number;
         if (is_early) { /* reports the task before it runs it */
-            answer = gerfmuod_team_turn(team, ran);
+            answer = turn(ran);
             if (body(NULL, ran) || answer.next != GERFMUOD_GRAPH_RUN) return argument;
             ran = answer.number;
         }
