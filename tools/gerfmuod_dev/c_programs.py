@@ -3,14 +3,16 @@
 A row has a program, sources to compile with it, further options of the compiler, its runs, and its runs under valgrind and with the
 sanitizers of SANITIZERS; "full" has those of the long form. A run is its arguments, if it succeeds, or a list: the expected status (-1: any
 but 0), a text that the output contains, and the arguments of one or more runs. Each case of a test over cmocka counts. CC, CXX, FC, CFLAGS,
-CXXFLAGS, FFLAGS and LDFLAGS are those of the environment. After a run that did not end, the time limit is shorter, so that a library that
-hangs does not take hours.
+CXXFLAGS, FFLAGS and LDFLAGS are those of the environment. After a run that did not end, the time limit is shorter.
 """
 import functools
+import itertools
 import json
 import os
 import re
 import subprocess
+import tempfile
+from concurrent.futures import ThreadPoolExecutor
 from typing import NamedTuple
 
 from . import running
@@ -111,7 +113,7 @@ class Build:
 
     def command(self, program, path, *options):
         source, ending = os.path.join("capi", program.source), os.path.splitext(program.source)[1]
-        modules = ["-J", self.folder] if ending == ".f90" else []
+        modules = ["-J", tempfile.mkdtemp(dir=self.folder)] if ending == ".f90" else []
         command = [*COMPILE[ending], *options, *modules, source, *program.files, "-o", path]
         if ending == ".rs":
             return [*command, "-L", f"native={self.library}", "-l", "static=gerfmuod"]
@@ -119,7 +121,7 @@ class Build:
         return [*command, *program.options, *libraries, *environment_options("LDFLAGS")]
 
     def compiled(self, tally, program, *options):
-        path = f"{self.folder}/{program.source.replace('/', '_').replace('.', '_')}{''.join(options)[:12]}"
+        path = f"{self.folder}/{program.source.replace('/', '_').replace('.', '_')}{len(program.options)}{''.join(options)[:12]}"
         command = self.command(program, path, *options)
         result = start(command)
         tally.judge(not result.status, f"{' '.join(command)}: status {result.status}: {short(result.out + result.err, 2000)}")
@@ -127,7 +129,8 @@ class Build:
 
     @functools.lru_cache(maxsize=None)
     def can_link(self, *options):
-        source, path = running.write(f"{self.folder}/empty.c", "int main(void) { return 0; }\n"), f"{self.folder}/empty"
+        folder = tempfile.mkdtemp(dir=self.folder)
+        source, path = running.write(f"{folder}/empty.c", "int main(void) { return 0; }\n"), f"{folder}/empty"
         return succeeds([*C, *options, source, "-o", path]) and succeeds([path])
 
 
@@ -156,10 +159,9 @@ def run_programs(tally, build, own):
         if lacking := [program for program in own if option in program.options and not build.can_link(option)]:
             tally.skips(f"{len(lacking)} programs, such as {lacking[0].source}", package)
         own = [program for program in own if program not in lacking]
-    for program in own:
-        if tally.has(COMPILE[os.path.splitext(program.source)[1]][0], program.source):
-            for kind in ("runs", *SANITIZERS):
-                run_kind(tally, build, program, kind)
+    own = [program for program in own if tally.has(COMPILE[os.path.splitext(program.source)[1]][0], program.source)]
+    with ThreadPoolExecutor(2) as lanes:  # (most programs have a few threads, and the parts of `make test` run side by side)
+        list(lanes.map(lambda each: run_kind(tally, build, *each), itertools.product(own, ("runs", *SANITIZERS))))
 
 
 def check_sources(tally, headers, sources):

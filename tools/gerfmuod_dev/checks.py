@@ -1,9 +1,8 @@
 """Runs the parts of `make test` side by side, and prints what each comes to; with --gate the form of .ci/run.
 
-With --gate the gate runs first. The library and the programs are then built from what it proved, and the tests run with them.
-Otherwise they run with what is in bin/ and lib/. The output of a part is printed when it ends. The last lines are a table of the
-parts with their minutes and counts, what was skipped for lack of which package, and `N passed, M failed, K skipped` over all. The
-status is 1 if a test failed or a part did not end within its time limit.
+With --gate the gate runs first, and library and programs are built from what it proved. The output of a part is printed when it ends.
+The last lines are a table of the parts with their minutes and counts, what was skipped for lack of which package, and `N passed, M failed,
+K skipped` over all. The status is 1 if a test failed or a part did not end within its time limit.
 """
 import collections
 import contextlib

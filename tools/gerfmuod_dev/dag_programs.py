@@ -2,9 +2,8 @@
 
 They are linked with lib/libgerfmuod.a, which has to be of these sources (`make lib` builds it), or with the library of another
 folder, and run as the second part of tools/data/capi.json says: under valgrind and with sanitizers, too; those in Python as
-tools/data/python.json says. Programs with a fault must fail. What teams record of their runs is compared with the traces. It skips
-what is not installed, and counts that; `tools/bench-packages` prints the packages. With --full only what has a long form runs, in it.
-With --processes only the Python programs over MPI run, with each of these numbers of processes.
+tools/data/python.json says. Programs with a fault must fail. What teams record of their runs is compared with the traces. What is not
+installed is skipped (`tools/bench-packages`). With --full only what has a long form runs, with --processes only Python over MPI.
 """
 import json
 import os
