@@ -75,7 +75,7 @@ struct gerfmuod_workers {
     struct graph *graph;    /* NULL until a graph runs; it stays for the next one */
     struct crew crew;       /* all threads but the caller's */
     pthread_mutex_t lock;   /* of what follows */
-    uint32_t entered;       /* how many threads are in the run */
+    uint32_t entered;       /* how many threads are in the run, beside the caller's */
     bool has_failed;
     void *failed;
     uint32_t failed_task; /* of a graph, or GERFMUOD_GRAPH_NONE */
@@ -135,8 +135,9 @@ static void receive(struct gerfmuod_worker *worker, struct parcel *parcel) {
 }
 
 /* Gives tasks to workers that wait for some, as long as there are both. The lock is released in between. */
-static void share(struct gerfmuod_worker *worker) {
-    struct parcel parcel = {.count = 0};
+static NOINLINE void share(struct gerfmuod_worker *worker) {
+    struct parcel parcel; /* not all of it is set: that takes as long as a short task */
+    parcel.count = 0;
     while (worker->seekers_count && (worker->count || parcel.count)) {
         struct gerfmuod_worker *seeker = &worker->all->workers[worker->seekers[--worker->seekers_count]];
         if (!parcel.count) take_for_other(worker, &parcel);
@@ -155,7 +156,7 @@ uint32_t gerfmuod_worker_spawn(gerfmuod_worker *worker, gerfmuod_worker_body bod
     if (!refused) {
         must(gerfmuod_tasks_add(&worker->tasks));
         put(worker, (struct item){body, argument});
-        if (worker->seekers_count) share(worker);
+        if (worker->seekers_count && worker->count) share(worker);
     }
     release(worker);
     return refused;
@@ -180,7 +181,7 @@ static void run_newest(struct gerfmuod_worker *worker) {
     struct item item = worker->items[(worker->first + --worker->count) & (worker->room - 1)];
     must(gerfmuod_tasks_begin(&worker->tasks));
     worker->ran++;
-    if (worker->seekers_count) share(worker);
+    if (worker->seekers_count && worker->count) share(worker);
     release(worker);
     if (item.body(worker, item.argument)) stop(worker->all, item.argument, GERFMUOD_GRAPH_NONE);
     acquire(worker);
@@ -223,7 +224,7 @@ static uint32_t next_of_chain(struct gerfmuod_worker *worker, uint32_t *ready) {
     if (worker->is_stopped) next = GERFMUOD_GRAPH_NONE;
     else worker->ran++;
     for (; *ready != GERFMUOD_GRAPH_NONE && !worker->is_stopped && reserve(worker, 1); *ready = later[*ready]) put_chain(worker, *ready);
-    if (worker->seekers_count) share(worker);
+    if (worker->seekers_count && worker->count) share(worker);
     release(worker);
     return next;
 }
@@ -243,7 +244,8 @@ static int run_chain(gerfmuod_worker *worker, void *first) {
 
 /* Takes tasks from another worker, or leaves the own number with it. Returns whether there were some. No lock is held. */
 static bool seek_at(struct gerfmuod_worker *worker, struct gerfmuod_worker *other, bool leaves_number) {
-    struct parcel parcel = {.count = 0};
+    struct parcel parcel;
+    parcel.count = 0;
     if (leaves_number) acquire(other);
     else if (pthread_mutex_trylock(&other->lock)) return false;
     if (other->count) take_for_other(other, &parcel);
@@ -322,7 +324,7 @@ static void work(struct gerfmuod_worker *worker) {
 static void enter(void *argument) {
     gerfmuod_workers *all = argument;
     pthread_mutex_lock(&all->lock);
-    uint32_t number = all->entered++;
+    uint32_t number = ++all->entered;
     pthread_mutex_unlock(&all->lock);
     work(&all->workers[number]);
 }
@@ -447,7 +449,7 @@ static void reopen(struct gerfmuod_worker *worker) {
 uint32_t gerfmuod_workers_run(gerfmuod_workers *all) {
     all->entered = 0, all->has_failed = false, all->failed = NULL, all->failed_task = GERFMUOD_GRAPH_NONE;
     crew_call(&all->crew, all->threads - 1, !all->is_crowded, enter, all);
-    enter(all);
+    work(&all->workers[0]); /* the first tasks of a graph, whose memory this thread has just written */
     crew_wait(&all->crew, -1);
     for (uint32_t k = 0; k < all->threads; k++) reopen(&all->workers[k]);
     return all->has_failed ? GERFMUOD_REFUSED_STOPPED : GERFMUOD_OK;
