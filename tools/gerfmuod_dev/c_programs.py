@@ -32,7 +32,7 @@ KINDS = ("runs", "valgrind", *SANITIZERS)
 # the packages of libraries that a program may need
 PACKAGES = {"-lcmocka": "libcmocka-dev", "-lopenblas": "libopenblas-dev"}
 # the compilers that check all sources, with the standards of headers and of programs
-COMPILERS = {"gcc": ["c99", "c11"], "clang": ["c99", "c11"], "g++": ["c++98", "c++11", "c++17"], "clang++": ["c++98", "c++11", "c++17"]}
+COMPILERS = {"gcc": ["c99", "gnu17"], "clang": ["c99", "c11"], "g++": ["c++98", "c++11", "c++17"], "clang++": ["c++98", "c++11", "c++17"]}
 # instead of an expected exit status: any but 0
 FAILURE = -1
 SECONDS_AFTER_A_HANG = 15

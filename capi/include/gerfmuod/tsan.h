@@ -9,8 +9,8 @@
 
 void __tsan_read8(void *address);
 void __tsan_write8(void *address);
-void __tsan_read_range(void *address, size_t size);
-void __tsan_write_range(void *address, size_t size);
+void __tsan_read_range(void *address, long size); /* as gcc knows them */
+void __tsan_write_range(void *address, long size);
 
 #endif
 
@@ -67,8 +67,8 @@ GERFMUOD_TSAN(gerfmuod_written, READ, core_trace,
 #endif
 
 #if defined(GERFMUOD_PROCESS_H) && !defined(gerfmuod_process_init)
-#define GERFMUOD_TSAN_READ __tsan_read_range((void *)(uintptr_t)process, sizeof *process)
-#define GERFMUOD_TSAN_WRITE __tsan_write_range(process, sizeof *process)
+#define GERFMUOD_TSAN_READ __tsan_read_range((void *)(uintptr_t)process, (long)sizeof *process)
+#define GERFMUOD_TSAN_WRITE __tsan_write_range(process, (long)sizeof *process)
 GERFMUOD_TSAN(uint32_t, WRITE, process_init,
               (gerfmuod_process *process, uint32_t number, uint32_t processes),
               (process, number, processes))
@@ -94,9 +94,9 @@ GERFMUOD_TSAN(uint64_t, READ, process_wave, (const gerfmuod_process *process), (
 GERFMUOD_TSAN(const char *, READ, process_text, (const gerfmuod_process *process), (process))
 #undef GERFMUOD_TSAN_READ
 #undef GERFMUOD_TSAN_WRITE
-#define GERFMUOD_TSAN_READ __tsan_read_range((void *)(uintptr_t)tasks, sizeof *tasks)
-#define GERFMUOD_TSAN_WRITE __tsan_write_range(tasks, sizeof *tasks)
-#define GERFMUOD_TSAN_PROCESS __tsan_write_range(process, sizeof *process)
+#define GERFMUOD_TSAN_READ __tsan_read_range((void *)(uintptr_t)tasks, (long)sizeof *tasks)
+#define GERFMUOD_TSAN_WRITE __tsan_write_range(tasks, (long)sizeof *tasks)
+#define GERFMUOD_TSAN_PROCESS __tsan_write_range(process, (long)sizeof *process)
 #define GERFMUOD_TSAN_SETTLE (GERFMUOD_TSAN_READ, GERFMUOD_TSAN_PROCESS)
 #define GERFMUOD_TSAN_BOTH (GERFMUOD_TSAN_WRITE, GERFMUOD_TSAN_PROCESS)
 static inline void gerfmuod_tsan_tasks_open(gerfmuod_tasks *tasks) { GERFMUOD_TSAN_WRITE, gerfmuod_tasks_open(tasks); }
@@ -163,12 +163,12 @@ GERFMUOD_TSAN(bool, READ, tasks_is_idle, (const gerfmuod_tasks *tasks), (tasks))
 #endif
 
 #if defined(GERFMUOD_GRAPH_H) && !defined(gerfmuod_graph_link)
-#define GERFMUOD_TSAN_READS(array) __tsan_read_range((void *)(uintptr_t)array, array##_count * sizeof *array)
-#define GERFMUOD_TSAN_WRITES(array) __tsan_write_range(array, array##_count * sizeof *array)
+#define GERFMUOD_TSAN_READS(array) __tsan_read_range((void *)(uintptr_t)array, (long)(array##_count * sizeof *array))
+#define GERFMUOD_TSAN_WRITES(array) __tsan_write_range(array, (long)(array##_count * sizeof *array))
 #define GERFMUOD_TSAN_LINK                                                                                        \
     (GERFMUOD_TSAN_READS(offsets), GERFMUOD_TSAN_READS(inputs), GERFMUOD_TSAN_WRITES(missing), GERFMUOD_TSAN_WRITES(newest), \
      GERFMUOD_TSAN_WRITES(older), GERFMUOD_TSAN_WRITES(readers))
-#define GERFMUOD_TSAN_WRITE __tsan_write_range(missing, sizeof *missing)
+#define GERFMUOD_TSAN_WRITE __tsan_write_range(missing, (long)sizeof *missing)
 GERFMUOD_TSAN(gerfmuod_graph_result, LINK, graph_link,
               (const uint32_t *offsets, size_t offsets_count, const uint32_t *inputs, size_t inputs_count, uint32_t *missing,
                size_t missing_count, uint32_t *newest, size_t newest_count, uint32_t *older, size_t older_count, uint32_t *readers,
