@@ -22,7 +22,7 @@ PEERS = ["hand", "safra", "reductions"]
 SEEDS, COMMANDS = 5, (MPIS[0].compiler, MPIS[0].runner[0])
 # what to run: the trees, the order of the matrix and of its tiles, the numbers of processes, and the number of random graphs
 Size = collections.namedtuple("Size", "trees matrix counts seeds")
-QUICK = Size(["T0"], ["256", "32"], [1, 2, 4], "60")
+QUICK = Size(["T0"], ["256", "32"], [1, 3], "60")
 FULL = Size(["T1", "T3"], ["1024", "64"], [1, 2, 4, 8, 16], "1000")
 
 
@@ -54,7 +54,7 @@ def run_programs(tally, folder, size):
 
 
 def arguments(parser):
-    parser.add_argument("--quick", action="store_true", help="a small tree and a small matrix, with 1, 2 and 4 processes")
+    parser.add_argument("--quick", action="store_true", help="a small tree and a small matrix, with 1 and 3 processes")
 
 
 def run(options):

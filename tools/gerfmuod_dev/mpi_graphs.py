@@ -39,7 +39,7 @@ SCALAPACK = "/usr/lib/x86_64-linux-gnu/libscalapack-openmpi.so"
 # mpirun has ended by then if a process ended in a body; it takes less than 2 seconds
 SECONDS_OF_CRASH, WELL = 30, "have the value"
 # the number of graphs in which a damage is sought, at three processes. With some the program hangs, and is ended after these seconds
-GRAPHS, SECONDS = "60", 10
+GRAPHS, SECONDS = "60", 5
 
 
 def compiled(mpi, folder, name, sources=(SOURCE,), options=(), path=None):
@@ -142,9 +142,9 @@ def run_programs(tally, folder, size):
         runs += [(program, [*size.matrix, "2"], "right") for program in factoring]
         for processes in size.counts:
             # (with 16 processes the threads of StarPU, which never sleep, take minutes)
-            own = [run for run in runs if processes <= 4 or "starpu" not in run[0]]
-            for run in [*own, *[(costs, ["100"], "a message of 8 bytes")] * (processes == 2)]:
+            for run in (run for run in runs if processes <= 4 or "starpu" not in run[0]):
                 judge_run(tally, mpi, processes, *run)
+        judge_run(tally, mpi, 2, costs, ["100"], "a message of 8 bytes")
         judge_crashes(tally, mpi, crash)
     for mpi in found[:1]:
         judge_damages(tally, mpi, folder)

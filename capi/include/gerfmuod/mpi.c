@@ -5,9 +5,9 @@
  * task here that reads it. The graph has a task for each datum, its initial value. A message has the versions that one task wrote
  * and another process reads, in the order in which the graph's tasks name them. Its tag is the number of the task, from 1.
  *
- * A version may be sent from the caller's memory: the next task that writes it waits for the tasks that read it, also elsewhere. The
- * message of such a task is reported to the part only once the sends with what it read are complete, as MPI asks of who writes a buffer;
- * they were received, so this takes no time. */
+ * A message of one version is sent from the caller's memory: the next task that writes it waits for the tasks that read it, also elsewhere.
+ * The message of such a task is reported to the part only once the sends with what it read are complete, as MPI asks of who writes a
+ * buffer; they were received, so this takes no time. */
 #define _POSIX_C_SOURCE 200809L
 #include <gerfmuod/mpi.h>
 #include <gerfmuod/part.h>
@@ -26,8 +26,10 @@ enum { STOP = 0, FIRST_VALUE = 1 };
  * microseconds. If a yield takes LONG nanoseconds, other threads need the processor: then CROWDED pauses are sleeps instead of yields. A
  * thread that wakes gets the processor soon, one that yielded only after the others. */
 enum { SPINS = 50, POLLS = 250, NAPS = 6, LONG = 200000, CROWDED = 300 };
-/* The values of a body for which there is room on the stack. */
-enum { FEW_VALUES = 8 };
+/* The values of a body for which there is room on the stack; the alignment of its arguments. */
+enum { FEW_VALUES = 8, ALIGNMENT = _Alignof(max_align_t) };
+/* The bytes of a short message, at most; the bytes of a unit of one for which an int has no number. */
+enum { SHORT = 1024, UNIT = 1 << 20 };
 /* How many hashes of the description are kept, at most; the hash of none. */
 enum { MOST_HASHES = 1 << 15 };
 static const uint64_t hash_of_none = 0xcbf29ce484222325u;
@@ -36,10 +38,14 @@ static const uint64_t hash_of_none = 0xcbf29ce484222325u;
 typedef struct copy {
     void *at;
     size_t size;
-    uint32_t task;    /* the task that writes it */
     uint32_t readers; /* how many accesses of tasks here have not read it */
-    uint32_t place;   /* among all copies, in the order of the description */
 } copy;
+
+/* The message of a task brings a copy. */
+typedef struct {
+    uint32_t task, place; /* among all copies, in the order of the description */
+    copy *of;
+} arrival;
 
 typedef struct {
     int owner;
@@ -54,21 +60,17 @@ typedef struct {
 typedef struct message {
     int to;
     uint32_t count, *data;
+    size_t size;
+    char *block; /* while it is sent: several values, one after the other */
     struct message *next, *next_sent;
     MPI_Request request; /* once it was sent */
 } message;
 
 /* A task of another process reads what a message has. */
-typedef struct {
-    uint32_t reader;
-    message *of;
-} receipt;
+typedef struct { uint32_t reader; message *of; } receipt;
 
 /* One value that a body gets: of a datum, or of a copy. */
-typedef struct {
-    void **at;
-    copy *from;
-} value;
+typedef struct { void **at; copy *from; } value;
 
 /* A task of this process. */
 typedef struct {
@@ -80,15 +82,8 @@ typedef struct {
     message *messages;
 } task;
 
-typedef struct {
-    uint32_t task;
-    int to;
-} letter;
-
-typedef struct {
-    letter *at;
-    uint32_t count, room;
-} letters;
+typedef struct { task *from; int to; } letter;
+typedef struct { letter *at; uint32_t count, room; } letters;
 
 struct gerfmuod_mpi {
     MPI_Comm communicator;
@@ -102,8 +97,8 @@ struct gerfmuod_mpi {
     uint32_t data_count;
     task *tasks; /* their numbers ascend */
     uint32_t tasks_count, described;
-    copy **copies;
-    uint32_t copies_count;
+    arrival *arrivals; /* in a run their tasks ascend */
+    uint32_t arrivals_count;
     receipt *receipts; /* their readers ascend */
     uint32_t receipts_count;
     /* one lock protects the part, and all below; `work` is signalled when a task may be ready */
@@ -111,6 +106,7 @@ struct gerfmuod_mpi {
     pthread_cond_t work;
     gerfmuod_part part;
     uint32_t sleeping;
+    uint32_t task_found; /* the places that were found last, here and of the main thread alone */
     bool is_over, is_stopped;
     int64_t failure;  /* the process and the task whose body failed, or NO_FAILURE */
     letters due;      /* messages for the main thread */
@@ -118,6 +114,10 @@ struct gerfmuod_mpi {
     letters taken;    /* those of `due` that it sends now */
     message *sending; /* whose sends are perhaps not complete */
     message *stops;
+    uint32_t arrival_found, receipt_found;
+    bool are_short; /* all messages that come; then `expected` is the next one, which comes to `block` */
+    char block[SHORT];
+    MPI_Request expected;
     uint64_t *sent_to, *received_from;
     int64_t announced; /* the failure that was sent to the others, or NO_FAILURE */
 };
@@ -179,6 +179,7 @@ uint32_t gerfmuod_mpi_open(gerfmuod_mpi **opened, MPI_Comm communicator) {
     pthread_mutex_init(&graph->lock, NULL);
     pthread_cond_init(&graph->work, NULL);
     graph->failure = graph->announced = NO_FAILURE;
+    graph->expected = MPI_REQUEST_NULL;
     graph->hash = hash_of_none, graph->hashes = hashes, graph->stride = 1;
     return GERFMUOD_OK;
 }
@@ -216,9 +217,10 @@ static task *own_task(gerfmuod_mpi *graph, uint32_t number, gerfmuod_mpi_body bo
     graph->tasks = tasks;
     task *added = &tasks[graph->tasks_count++];
     *added = (task){.number = number, .count = (uint32_t)count, .body = body};
-    added->arguments = malloc(size ? size : 1);
-    added->values = calloc(count ? count : 1, sizeof *added->values + (count > FEW_VALUES ? sizeof(void *) : 0)); /* see run_body */
-    if (!added->arguments || !added->values) return refuse(graph, GERFMUOD_REFUSED_NO_MEMORY);
+    size_t pointers = count > FEW_VALUES ? count * sizeof(void *) : 0; /* see run_body */
+    size_t before = (count * sizeof *added->values + pointers + ALIGNMENT - 1) / ALIGNMENT * ALIGNMENT;
+    if (!(added->values = calloc(1, before + size + !size))) return refuse(graph, GERFMUOD_REFUSED_NO_MEMORY);
+    added->arguments = (char *)added->values + before;
     if (size) memcpy(added->arguments, arguments, size);
     return added;
 }
@@ -242,15 +244,25 @@ uint32_t gerfmuod_mpi_data(gerfmuod_mpi *graph, int owner, void *at, size_t size
     return handle;
 }
 
-/* The task of this process with a number. */
-static task *find_task(const gerfmuod_mpi *graph, uint32_t number) {
-    uint32_t low = 0, high = graph->tasks_count;
-    while (high - low > 1) {
+/* The place of the first of some elements that has at least this number: each begins with its own one, and they ascend. It is looked for
+ * from where the last one was found, since most are asked for in their order. */
+static uint32_t find(const void *elements, uint32_t count, size_t size, uint32_t number, uint32_t *found) {
+    const uint32_t *numbers = elements;
+    uint32_t low = *found, high = low, words = (uint32_t)(size / sizeof *numbers), step;
+    for (step = 1; high < count && numbers[(size_t)high * words] < number; step *= 2)
+        low = high + 1, high = count - low > step ? low + step : count;
+    for (step = 1; low && numbers[(size_t)(low - 1) * words] >= number; step *= 2) high = low - 1, low = high > step ? high - step : 0;
+    while (low < high) {
         uint32_t middle = low + (high - low) / 2;
-        if (graph->tasks[middle].number <= number) low = middle;
+        if (numbers[(size_t)middle * words] < number) low = middle + 1;
         else high = middle;
     }
-    return &graph->tasks[low];
+    return *found = low;
+}
+
+/* The task of this process with a number. In a run the lock is held. */
+static task *find_task(gerfmuod_mpi *graph, uint32_t number) {
+    return &graph->tasks[find(graph->tasks, graph->tasks_count, sizeof *graph->tasks, number, &graph->task_found)];
 }
 
 /* The message of a list that goes to a process; a new one if there is none. NULL if memory ran out. */
@@ -279,18 +291,20 @@ static void goes(gerfmuod_mpi *graph, uint32_t handle, int to, uint32_t reader) 
     for (uint32_t k = 0; has_room && k < m->count; k++)
         if (m->data[k] == handle) return;
     uint32_t *data = has_room ? grown(m->data, m->count, sizeof *data) : NULL;
-    if (data) m->data = data, data[m->count++] = handle;
+    if (data) m->data = data, data[m->count++] = handle, m->size += graph->data[handle]->size;
     else refuse(graph, GERFMUOD_REFUSED_NO_MEMORY);
 }
 
 /* The copy of the present version of another process's datum. NULL if memory ran out. */
 static copy *comes(gerfmuod_mpi *graph, datum *d) {
     if (d->newest) return d->newest;
-    copy *added = calloc(1, sizeof *added), **copies = grown(graph->copies, graph->copies_count, sizeof *copies);
-    if (copies) graph->copies = copies;
-    if (!added || !copies) return free(added), refuse(graph, GERFMUOD_REFUSED_NO_MEMORY);
-    *added = (copy){.size = d->size, .task = d->writer, .place = graph->copies_count};
-    graph->copies[graph->copies_count++] = added;
+    uint32_t count = graph->arrivals_count;
+    copy *added = calloc(1, sizeof *added);
+    arrival *arrivals = grown(graph->arrivals, count, sizeof *arrivals);
+    if (arrivals) graph->arrivals = arrivals;
+    if (!added || !arrivals) return free(added), refuse(graph, GERFMUOD_REFUSED_NO_MEMORY);
+    added->size = d->size;
+    arrivals[graph->arrivals_count++] = (arrival){d->writer, count, added};
     return d->newest = added;
 }
 
@@ -380,14 +394,14 @@ static void leave_letter(gerfmuod_mpi *graph, letter l) {
         if (at) due->at = at, due->room = room;
     }
     if (due->count < due->room) due->at[due->count++] = l;
-    else stop(graph, failure_of(graph, l.task));
+    else stop(graph, failure_of(graph, l.from->number));
 }
 
 /* What the part returns next, after all messages that are due, which are left to the main thread. The lock is held. */
 static gerfmuod_part_result next_of(gerfmuod_mpi *graph) {
     gerfmuod_part_result next;
     while ((next = gerfmuod_part_call(&graph->part, GERFMUOD_PART_NEXT, 0)).next == GERFMUOD_PART_SEND)
-        leave_letter(graph, (letter){next.number, (int)next.to});
+        leave_letter(graph, (letter){find_task(graph, next.number), (int)next.to});
     if (next.next == GERFMUOD_PART_OVER) graph->is_over = true, pthread_cond_broadcast(&graph->work);
     return next;
 }
@@ -409,122 +423,88 @@ static void *work(void *context) {
 /* ---- the messages; all that follows is of the main thread */
 
 /* Memory of the main thread, without which a run cannot go on. */
-static void *must_have(const gerfmuod_mpi *graph, size_t count, size_t size) {
-    void *block = calloc(count ? count : 1, size);
+static void *must_have(const gerfmuod_mpi *graph, void *block) {
     if (!block) MPI_Abort(graph->communicator, GERFMUOD_REFUSED_NO_MEMORY);
     return block;
 }
 
-/* Where the values of a message are: the first place is in `one`, of many all are in a block. */
-typedef struct {
-    uint32_t count;
-    void **at, *one;
-    int *sizes, size;
-} places;
+/* A block for several values. MPI counts no more than INT_MAX units: a larger block has room for whole units of UNIT bytes. */
+static void *new_block(const gerfmuod_mpi *graph, size_t size) { return must_have(graph, malloc(size + (size > INT_MAX ? UNIT : 1))); }
 
-static void add_place(const gerfmuod_mpi *graph, places *p, uint32_t most, void *at, size_t size) {
-    if (most > 1 && !p->at) p->at = must_have(graph, most, sizeof(void *)), p->sizes = must_have(graph, most, sizeof(int));
-    if (most > 1) p->at[p->count] = at, p->sizes[p->count] = (int)size;
-    else p->one = at, p->size = (int)size;
-    p->count++;
-}
-
-/* A message as MPI takes it. */
-typedef struct {
-    void *at;
-    int count;
-    MPI_Datatype type;
-} buffer;
-
-/* The message with the values at these places: one as it is, several by a type relative to MPI_BOTTOM. Frees the places. */
-static buffer buffer_of(const gerfmuod_mpi *graph, places p) {
-    buffer b = {p.one, p.size, MPI_BYTE};
-    if (p.count > 1) {
-        MPI_Aint *from = must_have(graph, p.count, sizeof *from);
-        for (uint32_t k = 0; k < p.count; k++) MPI_Get_address(p.at[k], &from[k]);
-        b = (buffer){MPI_BOTTOM, 1, MPI_DATATYPE_NULL};
-        MPI_Type_create_hindexed((int)p.count, p.sizes, from, MPI_BYTE, &b.type);
-        MPI_Type_commit(&b.type);
-        free(from), free(p.at), free(p.sizes);
-    }
-    return b;
+/* How many units MPI has to count, and their type. */
+static int units_of(size_t size, MPI_Datatype *type) {
+    *type = MPI_BYTE;
+    if (size <= INT_MAX) return (int)size;
+    MPI_Type_contiguous(UNIT, MPI_BYTE, type);
+    MPI_Type_commit(type);
+    return (int)((size + UNIT - 1) / UNIT);
 }
 
 /* The type is freed once no message uses it. */
-static void free_type(buffer *b) {
-    if (b->type != MPI_BYTE) MPI_Type_free(&b->type);
+static void free_type(MPI_Datatype *type) {
+    if (*type != MPI_BYTE) MPI_Type_free(type);
 }
 
 /* Sends a message of a list, which has one to each process at most. */
-static void send(gerfmuod_mpi *graph, message **list, int to, buffer b, int tag) {
-    message *m = message_to(list, to);
-    if (!m) MPI_Abort(graph->communicator, GERFMUOD_REFUSED_NO_MEMORY);
-    MPI_Isend(b.at, b.count, b.type, to, tag, graph->communicator, &m->request);
+static void send(gerfmuod_mpi *graph, message *m, const void *at, size_t size, int tag) {
+    MPI_Datatype type;
+    int count = units_of(size, &type);
+    MPI_Isend(at, count, type, m->to, tag, graph->communicator, &m->request);
+    free_type(&type);
     m->next_sent = graph->sending, graph->sending = m;
-    graph->sent_to[to]++;
+    graph->sent_to[m->to]++;
 }
 
+/* Sends one value from where it is, several in a block, and none if a task there only waits until this one has read. */
 static void send_letter(gerfmuod_mpi *graph, letter l) {
-    task *t = find_task(graph, l.task);
-    const message *m = t->messages;
-    while (m && m->to != l.to) m = m->next;
-    places p = {0}; /* without a value, if a task there only waits until this one has read */
-    for (uint32_t k = 0; m && k < m->count; k++) {
+    message *m = must_have(graph, message_to(&l.from->messages, l.to));
+    void *at = m->count ? graph->data[m->data[0]]->at : NULL;
+    if (m->count > 1) at = m->block = new_block(graph, m->size);
+    char *next = m->block;
+    for (uint32_t k = 0; next && k < m->count; k++) {
         const datum *d = graph->data[m->data[k]];
-        add_place(graph, &p, m->count, d->at, d->size);
+        if (d->size) memcpy(next, d->at, d->size), next += d->size;
     }
-    buffer b = buffer_of(graph, p);
-    send(graph, &t->messages, l.to, b, FIRST_VALUE + (int)l.task);
-    free_type(&b);
+    send(graph, m, at, m->size, FIRST_VALUE + (int)l.from->number);
 }
 
 /* Sends the others the failure that stopped the run. */
 static void announce(gerfmuod_mpi *graph) {
     for (int p = 0; p < graph->processes; p++)
-        if (p != graph->me) send(graph, &graph->stops, p, (buffer){&graph->announced, 1, MPI_INT64_T}, STOP);
+        if (p != graph->me)
+            send(graph, must_have(graph, message_to(&graph->stops, p)), &graph->announced, sizeof graph->announced, STOP);
 }
 
 static int by_task(const void *one, const void *other) {
-    const copy *a = *(copy *const *)one, *b = *(copy *const *)other;
+    const arrival *a = one, *b = other;
     if (a->task != b->task) return a->task < b->task ? -1 : 1;
     return a->place < b->place ? -1 : a->place > b->place;
 }
 
-/* The first copy that a message with the value of a task brings; the others follow. */
-static uint32_t first_copy(const gerfmuod_mpi *graph, uint32_t number) {
-    uint32_t low = 0, high = graph->copies_count;
-    while (low < high) {
-        uint32_t middle = low + (high - low) / 2;
-        if (graph->copies[middle]->task < number) low = middle + 1;
-        else high = middle;
-    }
-    return low;
-}
-
 /* Waits until the sends with what a task of another process read are complete. */
 static void await_sends(gerfmuod_mpi *graph, uint32_t reader) {
-    uint32_t low = 0, high = graph->receipts_count;
-    while (low < high) {
-        uint32_t middle = low + (high - low) / 2;
-        if (graph->receipts[middle].reader < reader) low = middle + 1;
-        else high = middle;
-    }
-    for (; low < graph->receipts_count && graph->receipts[low].reader == reader; low++)
-        gerfmuod_mpi_await(&graph->receipts[low].of->request);
+    const receipt *all = graph->receipts;
+    uint32_t k = find(all, graph->receipts_count, sizeof *all, reader, &graph->receipt_found);
+    for (; k < graph->receipts_count && all[k].reader == reader; k++) gerfmuod_mpi_await(&all[k].of->request);
 }
 
-static void receive_value(gerfmuod_mpi *graph, int from, uint32_t number) {
-    uint32_t first = first_copy(graph, number), count = 0;
-    while (first + count < graph->copies_count && graph->copies[first + count]->task == number) count++;
-    places p = {0};
-    for (uint32_t k = 0; k < count; k++) {
-        copy *c = graph->copies[first + k];
-        if (!(c->at = malloc(c->size ? c->size : 1))) MPI_Abort(graph->communicator, GERFMUOD_REFUSED_NO_MEMORY);
-        add_place(graph, &p, count, c->at, c->size);
+/* Receives the values that the message of a task brings, if they are not in `block` already, one after the other, and reports it. */
+static void receive_value(gerfmuod_mpi *graph, int from, uint32_t number, const char *block) {
+    const arrival *all = graph->arrivals, *end = all + graph->arrivals_count, *a;
+    const arrival *first = &all[find(all, graph->arrivals_count, sizeof *all, number, &graph->arrival_found)];
+    size_t size = 0;
+    for (a = first; a < end && a->task == number; a++) a->of->at = must_have(graph, malloc(a->of->size + 1)), size += a->of->size;
+    char *own = block || a - first == 1 ? NULL : new_block(graph, size);
+    if (!block) {
+        MPI_Datatype type;
+        int count = units_of(size, &type);
+        void *at = own ? own : first->of->at;
+        AWAIT(MPI_Irecv(at, count, type, from, FIRST_VALUE + (int)number, graph->communicator, &request));
+        free_type(&type);
+        block = own;
     }
-    buffer b = buffer_of(graph, p);
-    AWAIT(MPI_Irecv(b.at, b.count, b.type, from, FIRST_VALUE + (int)number, graph->communicator, &request));
-    free_type(&b);
+    for (a = first; block && a < end && a->task == number; a++) memcpy(a->of->at, block, a->of->size), block += a->of->size;
+    free(own);
     await_sends(graph, number);
     pthread_mutex_lock(&graph->lock);
     uint32_t refused = gerfmuod_part_call(&graph->part, GERFMUOD_PART_ARRIVED, number).refused;
@@ -533,19 +513,25 @@ static void receive_value(gerfmuod_mpi *graph, int from, uint32_t number) {
     if (refused) MPI_Abort(graph->communicator, (int)refused); /* the processes described the same graph, so nothing else comes */
 }
 
-/* Receives one message, if one came; returns whether it did. */
+/* Receives one message, if one came; returns whether it did. If all are short, MPI always expects the next one, which takes it less time
+ * than a message that nobody waits for. */
 static bool receive(gerfmuod_mpi *graph) {
     int is_there;
     MPI_Status status;
-    MPI_Iprobe(MPI_ANY_SOURCE, MPI_ANY_TAG, graph->communicator, &is_there, &status);
+    char *block = graph->are_short ? graph->block : NULL;
+    if (block && graph->expected == MPI_REQUEST_NULL)
+        MPI_Irecv(block, SHORT, MPI_BYTE, MPI_ANY_SOURCE, MPI_ANY_TAG, graph->communicator, &graph->expected);
+    if (block) MPI_Test(&graph->expected, &is_there, &status);
+    else MPI_Iprobe(MPI_ANY_SOURCE, MPI_ANY_TAG, graph->communicator, &is_there, &status);
     if (!is_there) return false;
     graph->received_from[status.MPI_SOURCE]++;
     if (status.MPI_TAG != STOP) {
-        receive_value(graph, status.MPI_SOURCE, (uint32_t)(status.MPI_TAG - FIRST_VALUE));
+        receive_value(graph, status.MPI_SOURCE, (uint32_t)(status.MPI_TAG - FIRST_VALUE), block);
         return true;
     }
     int64_t failure;
-    MPI_Recv(&failure, 1, MPI_INT64_T, status.MPI_SOURCE, STOP, graph->communicator, MPI_STATUS_IGNORE);
+    if (block) memcpy(&failure, block, sizeof failure);
+    else MPI_Recv(&failure, sizeof failure, MPI_BYTE, status.MPI_SOURCE, STOP, graph->communicator, MPI_STATUS_IGNORE);
     pthread_mutex_lock(&graph->lock);
     stop(graph, failure);
     pthread_mutex_unlock(&graph->lock);
@@ -557,7 +543,7 @@ static void forget_sent(gerfmuod_mpi *graph) {
     for (message **at = &graph->sending, *m; (m = *at);) {
         int is_complete;
         MPI_Test(&m->request, &is_complete, MPI_STATUS_IGNORE);
-        if (is_complete) *at = m->next_sent;
+        if (is_complete) *at = m->next_sent, free(m->block), m->block = NULL;
         else at = &m->next_sent;
     }
 }
@@ -600,7 +586,7 @@ static void communicate(gerfmuod_mpi *graph, bool is_alone, int64_t *failure) {
             if (has_ended) MPI_Iallreduce(&mine, failure, 1, MPI_INT64_T, MPI_MIN, graph->communicator, &agreed);
         }
         forget_sent(graph);
-        while (receive(graph)) is_more = true;
+        if (receive(graph)) is_more = true;
         if (is_more) polls = 0;
         else if (!agree) pause_after(&polls);
     }
@@ -608,7 +594,7 @@ static void communicate(gerfmuod_mpi *graph, bool is_alone, int64_t *failure) {
 
 /* After a stop: receives what is still in flight, so that nothing of this run is left in the communicator. */
 static void drain(gerfmuod_mpi *graph) {
-    uint64_t *sent = must_have(graph, (size_t)graph->processes, sizeof *sent);
+    uint64_t *sent = must_have(graph, malloc((size_t)graph->processes * sizeof *sent));
     AWAIT(MPI_Ialltoall(graph->sent_to, 1, MPI_UINT64_T, sent, 1, MPI_UINT64_T, graph->communicator, &request));
     for (int p = 0; p < graph->processes; p++)
         for (uint32_t polls = 0; graph->received_from[p] < sent[p];)
@@ -657,6 +643,14 @@ static uint32_t agree_to_run(gerfmuod_mpi *graph, uint32_t refused) {
     return GERFMUOD_REFUSED_DIFFERENT;
 }
 
+/* Whether all messages that come have at most SHORT bytes. */
+static bool are_short(const arrival *all, uint32_t count) {
+    size_t size = 0;
+    for (uint32_t k = 0; k < count && size <= SHORT; k++)
+        size = all[k].of->size + (k && all[k].task == all[k - 1].task ? size : 0);
+    return size <= SHORT;
+}
+
 /* Allocates what a run needs; returns the refusal. */
 static uint32_t prepare(gerfmuod_mpi *graph, uint32_t threads) {
     int *most, is_set;
@@ -669,7 +663,8 @@ static uint32_t prepare(gerfmuod_mpi *graph, uint32_t threads) {
     graph->sent_to = calloc(processes, sizeof *graph->sent_to);
     graph->received_from = calloc(processes, sizeof *graph->received_from);
     if (!graph->sent_to || !graph->received_from) return GERFMUOD_REFUSED_NO_MEMORY;
-    if (graph->copies_count) qsort(graph->copies, graph->copies_count, sizeof(copy *), by_task);
+    if (graph->arrivals_count) qsort(graph->arrivals, graph->arrivals_count, sizeof *graph->arrivals, by_task);
+    graph->are_short = are_short(graph->arrivals, graph->arrivals_count);
     return gerfmuod_part_call(&graph->part, GERFMUOD_PART_START, 0).refused;
 }
 
@@ -690,6 +685,7 @@ uint32_t gerfmuod_mpi_run(gerfmuod_mpi *graph, uint32_t threads) {
     free(started);
     if (failure != NO_FAILURE) drain(graph), graph->failure = failure, refused = GERFMUOD_REFUSED_STOPPED;
     for (message *m = graph->sending; m; m = m->next_sent) gerfmuod_mpi_await(&m->request); /* all are received, or being received */
+    if (graph->expected != MPI_REQUEST_NULL) MPI_Cancel(&graph->expected), MPI_Wait(&graph->expected, MPI_STATUS_IGNORE);
     return refused;
 }
 
@@ -706,12 +702,12 @@ uint64_t gerfmuod_mpi_messages(const gerfmuod_mpi *graph) {
 }
 
 static void free_messages(message *first) {
-    for (message *m = first, *next; m; m = next) next = m->next, free(m->data), free(m);
+    for (message *m = first, *next; m; m = next) next = m->next, free(m->data), free(m->block), free(m);
 }
 
 static void free_task(task *t) {
     free_messages(t->messages);
-    free(t->arguments), free(t->values);
+    free(t->values);
 }
 
 void gerfmuod_mpi_close(gerfmuod_mpi *graph) {
@@ -719,8 +715,8 @@ void gerfmuod_mpi_close(gerfmuod_mpi *graph) {
     (void)!gerfmuod_part_call(&graph->part, GERFMUOD_PART_CLOSE, 0).refused;
     for (uint32_t k = 0; k < graph->tasks_count; k++) free_task(&graph->tasks[k]);
     for (uint32_t k = 0; k < graph->data_count; k++) free(graph->data[k]);
-    for (uint32_t k = 0; k < graph->copies_count; k++) free(graph->copies[k]->at), free(graph->copies[k]);
-    free(graph->tasks), free(graph->data), free(graph->copies), free(graph->receipts), free(graph->hashes);
+    for (uint32_t k = 0; k < graph->arrivals_count; k++) free(graph->arrivals[k].of->at), free(graph->arrivals[k].of);
+    free(graph->tasks), free(graph->data), free(graph->arrivals), free(graph->receipts), free(graph->hashes);
     free(graph->due.at), free(graph->taken.at);
     free_messages(graph->stops);
     free(graph->sent_to), free(graph->received_from);
