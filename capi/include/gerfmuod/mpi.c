@@ -594,7 +594,7 @@ static void communicate(gerfmuod_mpi *graph, bool is_alone, int64_t *failure) {
 
 /* After a stop: receives what is still in flight, so that nothing of this run is left in the communicator. */
 static void drain(gerfmuod_mpi *graph) {
-    uint64_t *sent = must_have(graph, malloc((size_t)graph->processes * sizeof *sent));
+    uint64_t *sent = must_have(graph, calloc((size_t)graph->processes, sizeof *sent));
     AWAIT(MPI_Ialltoall(graph->sent_to, 1, MPI_UINT64_T, sent, 1, MPI_UINT64_T, graph->communicator, &request));
     for (int p = 0; p < graph->processes; p++)
         for (uint32_t polls = 0; graph->received_from[p] < sent[p];)
@@ -643,12 +643,13 @@ static uint32_t agree_to_run(gerfmuod_mpi *graph, uint32_t refused) {
     return GERFMUOD_REFUSED_DIFFERENT;
 }
 
-/* Whether all messages that come have at most SHORT bytes. */
+/* Whether values come, and no message with them has more than SHORT bytes. (If none can come, nothing is to be expected: in MPICH 4.0.2
+ * MPI_Ialltoall of a single process never ends meanwhile.) */
 static bool are_short(const arrival *all, uint32_t count) {
     size_t size = 0;
     for (uint32_t k = 0; k < count && size <= SHORT; k++)
         size = all[k].of->size + (k && all[k].task == all[k - 1].task ? size : 0);
-    return size <= SHORT;
+    return count && size <= SHORT;
 }
 
 /* Allocates what a run needs; returns the refusal. */
