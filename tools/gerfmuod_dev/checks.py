@@ -17,7 +17,7 @@ from . import repository, running
 
 # the arguments of tools/dev for each part; those that take longest begin first
 PARTS = {
-    "dag": "dag", "try": "try", "capi": "capi", "mpi": "mpi --quick", "pages": "pages", "package": "package",
+    "mpi": "mpi --quick", "dag": "dag", "try": "try", "capi": "capi", "package": "package", "pages": "pages",
     "strange": "limits strange --quick", "refuse": "limits refuse --quick", "manners": "limits manners", "docs": "docs",
     "bench": "bench --check", "mutants": "mutants --stale", "tools": "test --tools", "mpi-check": "mpi-check", "ompt": "ompt",
 }
